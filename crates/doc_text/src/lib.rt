@@ -1,0 +1,4 @@
+//! Documents: the trees of the XML profile that models, metamodels and code files are written in.
+#![tactic(auto)]
+
+pub mod tree;
