@@ -1,16 +1,16 @@
 -- Laws of XML text: what is put together of texts is one, and none reaches past a character that no text has.
-use Rattle.std.proofs.Common.{◌≡◌, ◌≢◌, ℕ, ◌+◌, ◌-◌, cond, ◌<◌, ◌≤◌, ◌||◌, ◌&&◌, ◌⊎◌, Bool, true, false, List, [], ◌∷◌, ◌++◌, length, take, drop, refl, inl, inr, sym, ap, subst, ◌∙◌, append_assoc, arith}
+use Rattle.std.proofs.Common.{◌≡◌, ◌≢◌, ℕ, ◌+◌, ◌-◌, cond, ◌<◌, ◌≤◌, ◌||◌, ◌&&◌, ◌⊎◌, nat_lt, Bool, true, false, List, [], ◌∷◌, ◌++◌, length, take, drop, refl, inl, inr, sym, ap, subst, ◌∙◌, append_assoc, arith}
 use Rattle.std.specs.Str.{IsUtf8, IsValidUpTo, all_scalars, encode_utf8_all, IsCharBoundary}
 use Rattle.std.specs.Char.{encode_utf8}
 use Rattle.std.specs.Int.{is_in_range}
 use Rattle.std.specs.List.{list_all}
-use Rattle.std.proofs.lemmas.Bool.{and_parts, and_from, cases_lt}
+use Rattle.std.proofs.lemmas.Bool.{and_parts, and_from, cases_lt, ltb-true}
 use Rattle.std.proofs.lemmas.Bool.Decides.{nat_tests}
 use Rattle.std.proofs.lemmas.List.{append-nil, length-append, length-take, take-append-drop, take-take, take_all, drop-take}
 use Rattle.std.proofs.lemmas.List.Folds.{list_all-append}
-use Rattle.std.proofs.lemmas.Str.{encode_same, encodes-append, encodes_same, IsUtf8-take, IsUtf8-drop, IsUtf8-between, length-encode, len_utf8_bounds}
+use Rattle.std.proofs.lemmas.Str.{encode_same, encodes-append, encodes_same, IsUtf8-take, IsUtf8-drop, IsUtf8-between, length-encode, len_utf8_bounds, encode_ascii, cons_from_encodes}
 use Rattle.std.proofs.Math.Seq.{take-append_seam}
-use Rattle.atl_base.specs.XmlText.{is_xml_character, IsXmlText, IsFirstOffence}
+use Rattle.atl_base.specs.XmlText.{is_xml_character, is_ascii_text, IsXmlText, IsFirstOffence}
 
 pub IsXmlText-nil : IsXmlText []
 IsXmlText-nil = ([], refl, refl)
@@ -134,3 +134,19 @@ offence_of_front bs front k (inr h) o = offence_in_front bs (length front) k h.0
 pub offence_past_front : (bs front : List ℕ) → (front ≡ bs) ⊎ (IsValidUpTo bs (length front) × (front ≡ take (length front) bs)) → length front < length bs → IsXmlText front → IsFirstOffence bs (length front)
 offence_past_front bs front (inl e) h p = absurd (omega (arith, ap length e))
 offence_past_front bs front (inr v) h p = offence_after_front bs (length front) v.0 (subst IsXmlText v.1 p)
+
+-- a literal
+pub IsXmlText-ascii : (bs : List ℕ) → list_all is_ascii_text bs ≡ true → IsXmlText bs
+IsXmlText-ascii [] h = IsXmlText-nil
+IsXmlText-ascii (b ∷ bs) h =
+    let parts = and_parts (is_ascii_text b) (list_all is_ascii_text bs) h in
+    let here = and_parts (nat_lt b 128) (is_xml_character b) parts.0 in
+    let one : IsXmlText (b ∷ []) = subst IsXmlText (encode_ascii b (ltb-true b 128 here.0)) (IsXmlText-encode b here.1) in
+    IsXmlText-append (b ∷ []) bs one (IsXmlText-ascii bs parts.1)
+
+-- the first character of a text, and what follows it
+pub IsXmlText-parts : (c : ℕ) (rest : List ℕ) → IsXmlText (encode_utf8 c ++ rest) → (is_xml_character c ≡ true) × IsXmlText rest
+IsXmlText-parts c rest p =
+    let q = cons_from_encodes p.0 rest c p.2 in
+    let parts = and_parts (is_xml_character c) (list_all is_xml_character q.0) (ap (list_all is_xml_character) (sym q.1) ∙ p.1) in
+    (parts.0, (q.0, parts.1, q.2))
