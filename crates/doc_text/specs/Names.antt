@@ -1,5 +1,6 @@
 -- The namespaces that models are written with (XMI 2.0; XML Schema, Structures), and names behind their prefixes.
-use Rattle.std.specs.Prelude.{ℕ, List, [], ◌∷◌, ◌++◌, if◌then◌else◌, codes}
+use Rattle.std.specs.Prelude.{ℕ, List, [], ◌∷◌, ◌++◌, codes, find}
+use Rattle.std.specs.Option.{option_map_or}
 use Rattle.std.specs.Str.{bytes_eq}
 use Rattle.doc_text.specs.declared.tree.Prefix.{Prefix}
 
@@ -11,8 +12,7 @@ xsi_space = codes "http://www.w3.org/2001/XMLSchema-instance"
 
 -- the prefix that is declared for a namespace, the first of several
 abbrev pub prefix_of : List Prefix → List ℕ → List ℕ
-prefix_of [] space = []
-prefix_of (d ∷ ds) space = if bytes_eq d.uri space then d.prefix else prefix_of ds space
+prefix_of ds space = option_map_or (λ d. d.prefix) (find (λ d. bytes_eq d.uri space) ds) []
 
 -- a name as it is written: behind the prefix of its namespace, where it is in one
 abbrev pub written_name : List Prefix → List ℕ → List ℕ → List ℕ

@@ -1,6 +1,7 @@
 -- What is written of a document: the declaration of XML 1.0 (section 2.8), then each element on a line of its own,
 -- behind two blanks for each element around it. All namespaces are declared at the root.
-use Rattle.std.specs.Prelude.{ℕ, suc, ◌+◌, ◌*◌, ◌&&◌, ◌==◌, Bool, not, List, [], ◌∷◌, ◌++◌, if◌then◌else◌, codes, filter, replicate}
+use Rattle.std.specs.Prelude.{ℕ, suc, ◌+◌, ◌*◌, ◌&&◌, Bool, not, List, [], ◌∷◌, ◌++◌, codes, filter, replicate, Option, Some, None}
+use Rattle.std.specs.Option.{option_map_or}
 use Rattle.std.specs.List.{flat_map}
 use Rattle.std.specs.Str.{bytes_eq}
 use Rattle.doc_text.specs.declared.tree.Attribute.{Attribute}
@@ -9,20 +10,13 @@ use Rattle.doc_text.specs.declared.tree.Child.{Child, fold-Child}
 use Rattle.doc_text.specs.declared.tree.Child.TheOpen as layer
 use Rattle.doc_text.specs.declared.tree.Element.{Element, fold-Element}
 use Rattle.doc_text.specs.declared.tree.Prefix.{Prefix}
+use Rattle.doc_text.specs.declared.escape.Escapes.TheVariants.{Value}
+use Rattle.doc_text.specs.declared.escape.Escapes.TheVariants as escape
+use Rattle.doc_text.specs.Escapes.{escaped}
 use Rattle.doc_text.specs.Names.{xmi_space, written_name}
 
--- a byte of an attribute's value: what would end it, or be read as another, is escaped
-abbrev pub in_value : ℕ → List ℕ
-in_value c = if c == 38 then codes "&amp;" else if c == 60 then codes "&lt;" else if c == 34 then codes "&quot;"
-    else if c == 9 then codes "&#x9;" else if c == 10 then codes "&#xA;" else if c == 13 then codes "&#xD;" else c ∷ []
-
--- a byte of an element's text, likewise
-abbrev pub in_text : ℕ → List ℕ
-in_text c = if c == 38 then codes "&amp;" else if c == 60 then codes "&lt;" else if c == 62 then codes "&gt;"
-    else if c == 13 then codes "&#xD;" else c ∷ []
-
 abbrev pub quoted : List ℕ → List ℕ
-quoted value = codes "=\"" ++ (flat_map in_value value ++ codes "\"")
+quoted value = codes "=\"" ++ (flat_map (escaped Value) value ++ codes "\"")
 
 abbrev pub written_attribute : List Prefix → Attribute → List ℕ
 written_attribute ds a = codes " " ++ (written_name ds a.space a.name ++ quoted a.value)
@@ -54,26 +48,42 @@ pub data Written : Type 0 where
 
 abbrev pub lines : ℕ → Written → List ℕ
 lines depth (Lines at) = at depth
-lines depth (Words text) = indent depth ++ (flat_map in_text text ++ codes "\n")
+lines depth (Words text) = indent depth ++ (flat_map (escaped escape.Text) text ++ codes "\n")
 
--- What follows the name and the attributes: a lone text stands in the element's line, elements on lines of their own.
-abbrev pub written_rest : List ℕ → ℕ → List Written → List ℕ
-written_rest name depth [] = codes "/>\n"
-written_rest name depth (Words text ∷ []) = codes ">" ++ (flat_map in_text text ++ (codes "</" ++ (name ++ codes ">\n")))
-written_rest name depth (c ∷ cs) = codes ">\n" ++ (flat_map (lines (suc depth)) (c ∷ cs) ++ (indent depth ++ (codes "</" ++ (name ++ codes ">\n"))))
+-- the text that an element has alone
+abbrev pub lone_text : List Written → Option (List ℕ)
+lone_text [] = None
+lone_text (Words text ∷ []) = Some text
+lone_text (Words text ∷ (c ∷ cs)) = None
+lone_text (Lines at ∷ cs) = None
+
+-- an element's line up to its attributes, and the end tag
+abbrev pub opening : List Prefix → List ℕ → List ℕ → List Prefix → List Attribute → ℕ → List ℕ
+opening ds space name declared attributes depth = indent depth ++ (codes "<" ++ (written_name ds space name ++ written_attributes ds declared attributes))
+
+abbrev pub end_tag : List Prefix → List ℕ → List ℕ → List ℕ
+end_tag ds space name = codes "</" ++ (written_name ds space name ++ codes ">\n")
+
+-- What follows the attributes: a lone text stands in the element's line, elements on lines of their own.
+abbrev pub contents : List ℕ → ℕ → List Written → List ℕ
+contents end depth [] = codes "/>\n"
+contents end depth (c ∷ cs) = option_map_or (λ text. codes ">" ++ (flat_map (escaped escape.Text) text ++ end)) (lone_text (c ∷ cs))
+    (codes ">\n" ++ (flat_map (lines (suc depth)) (c ∷ cs) ++ (indent depth ++ end)))
 
 -- one element, and its children as they are written
 abbrev pub written_layer : List Prefix → layer.Element-F Written (ℕ → List ℕ) → ℕ → List ℕ
-written_layer ds e depth = let name = written_name ds e.space e.name in
-    indent depth ++ (codes "<" ++ (name ++ (written_attributes ds e.declared e.attributes ++ written_rest name depth e.children)))
+written_layer ds e depth = opening ds e.space e.name e.declared e.attributes depth ++ contents (end_tag ds e.space e.name) depth e.children
 
 abbrev pub child_layer : layer.Child-F Written (ℕ → List ℕ) → Written
 child_layer (layer.Sub e) = Lines e
 child_layer (layer.Words text) = Words text
 
--- the lines of an element with these namespaces, behind as many elements as the depth says
+-- the lines of an element with these namespaces, behind as many elements as the depth says; and what is written of a child
 unfoldable pub written_element : List Prefix → Element → ℕ → List ℕ
 written_element ds = fold-Element Written (ℕ → List ℕ) child_layer (written_layer ds)
+
+unfoldable pub written_child : List Prefix → Child → Written
+written_child ds = fold-Child Written (ℕ → List ℕ) child_layer (written_layer ds)
 
 abbrev pub declaration : List ℕ
 declaration = codes "<?xml version=\"1.0\" encoding=\"UTF-8\"?>\n"
