@@ -1,9 +1,8 @@
 -- What is written of an element, by its children: none, a lone text, or lines; and what is pending then.
-use Rattle.std.proofs.Common.{◌≡◌, ℕ, suc, ◌+◌, ◌<◌, ◌≤◌, List, [], ◌∷◌, ◌++◌, length, drop, Some, None, Option, Result, Ok, Err, OnOk, codes, ap, sym, subst, ◌∙◌, refl, append_assoc, add-one, drop-cons, arith}
-use Rattle.std.specs.Prelude.{map, reverse, slice_get}
+use Rattle.std.proofs.Common.{◌≡◌, ℕ, suc, ◌+◌, ◌<◌, ◌≤◌, List, [], ◌∷◌, ◌++◌, length, drop, get_or, Some, None, Option, Result, Ok, Err, OnOk, codes, ap, sym, subst, ◌∙◌, refl, append_assoc, add-one, drop-cons, arith}
+use Rattle.std.specs.Prelude.{map, reverse}
 use Rattle.std.specs.List.{flat_map}
 use Rattle.std.proofs.lemmas.List.{drop_all, nil_from_length, reverse-append, length-reverse}
-use Rattle.std.proofs.lemmas.Option.{slice_get_within, get_or_from_slice_get}
 use Rattle.doc_text.specs.declared.escape.Escapes.TheVariants as escape
 use Rattle.doc_text.specs.declared.tree.Child.{Child}
 use Rattle.doc_text.specs.declared.tree.Element.{Element}
@@ -86,17 +85,15 @@ begun ds base depth e o os new out mid last oe on s d some h m l =
     ∙ joined out mid (last ++ tail) (opened ds e depth) (codes ">\n" ++ tail) (written_element ds e depth) rest m
         (ap (λ t. t ++ tail) l ∙ append_assoc mid (codes ">\n") tail) (written_lines ds e depth some h)
 
-drop_next : (cs : List Child) (i : ℕ) (c : Child) → slice_get cs i ≡ Some c → drop i cs ≡ c ∷ drop (i + 1) cs
-drop_next cs i c at =
-    let within : i < length cs = slice_get_within cs i c at in
-    rw (add-one, drop-cons cs i c) (ap (λ x. x ∷ drop (suc i) cs) (get_or_from_slice_get cs i c c at))
+drop_next : (cs : List Child) (i : ℕ) (c : Child) → i < length cs → c ≡ get_or cs i c → drop i cs ≡ c ∷ drop (i + 1) cs
+drop_next cs i c within at = rw (add-one, drop-cons cs i c) (ap (λ x. x ∷ drop (suc i) cs) (sym at))
 
 -- the next child of the innermost element
-pub next_child : (ds : List Prefix) (base depth : ℕ) (e : Element) (o p : Open) (os : List Open) (c : Child) → o.element.now ≡ e → p.element.now ≡ e → p.next ≡ o.next + 1 → slice_get e.children o.next ≡ Some c → base + length os ≡ depth →
+pub next_child : (ds : List Prefix) (base depth : ℕ) (e : Element) (o p : Open) (os : List Open) (c : Child) → o.element.now ≡ e → p.element.now ≡ e → p.next ≡ o.next + 1 → o.next < length e.children → c ≡ get_or e.children o.next c → base + length os ≡ depth →
     pending ds base (o ∷ os) ≡ lines (suc depth) (written_child ds c) ++ pending ds base (p ∷ os)
-next_child ds base depth e o p os c oe pe n at d =
+next_child ds base depth e o p os c oe pe n within at d =
     let more : drop o.next e.children ≡ c ∷ drop (o.next + 1) e.children =
-        drop_next e.children o.next c at in
+        drop_next e.children o.next c within at in
     let here : List ℕ = lines (suc depth) (written_child ds c) in
     let after : List ℕ = lines_of ds depth (drop (o.next + 1) e.children) in
     let tail : List ℕ = indent depth ++ (ended ds e ++ pending ds base os) in
@@ -108,3 +105,23 @@ next_child ds base depth e o p os c oe pe n at d =
 pub no_child : (ds : List Prefix) (base depth : ℕ) (e : Element) (o : Open) (os : List Open) → o.element.now ≡ e → length e.children ≤ o.next → base + length os ≡ depth →
     pending ds base (o ∷ os) ≡ indent depth ++ (ended ds e ++ pending ds base os)
 no_child ds base depth e o os oe past d = pending_is ds base depth e o os [] oe (drop_all o.next e.children past) d
+
+-- the steps of the loop: the innermost element ends, or its next child follows
+pub end_step : (ds : List Prefix) (base depth : ℕ) (e : Element) (o : Open) (os : List Open) (out mid new : List ℕ) → o.element.now ≡ e → length e.children ≤ o.next → base + length os ≡ depth →
+    mid ≡ out ++ indent depth → new ≡ mid ++ ended ds e → new ++ pending ds base (reverse os) ≡ out ++ pending ds base (o ∷ reverse os)
+end_step ds base depth e o os out mid new oe past d m n =
+    let rest : List ℕ = pending ds base (reverse os) in
+    let deeper : base + length (reverse os) ≡ depth = omega (arith, length-reverse os) in
+    ap (λ l. l ++ rest) (n ∙ ap (λ l. l ++ ended ds e) m) ∙ append_assoc (out ++ indent depth) (ended ds e) rest ∙ append_assoc out (indent depth) (ended ds e ++ rest)
+    ∙ ap (λ l. out ++ l) (sym (no_child ds base depth e o (reverse os) oe past deeper))
+
+pub child_step : (ds : List Prefix) (base depth : ℕ) (e : Element) (o p : Open) (os pushed after : List Open) (c : Child) (out new : List ℕ) → o.element.now ≡ e → p.element.now ≡ e → p.next ≡ o.next + 1 →
+    o.next < length e.children → c ≡ get_or e.children o.next c → base + length os ≡ depth → pushed ≡ os ++ p ∷ [] →
+    new ++ pending ds base (reverse after) ≡ out ++ (lines (depth + 1) (written_child ds c) ++ pending ds base (reverse pushed)) →
+    new ++ pending ds base (reverse after) ≡ out ++ pending ds base (o ∷ reverse os)
+child_step ds base depth e o p os pushed after c out new oe pe n within at d s step =
+    let deeper : base + length (reverse os) ≡ depth = omega (arith, length-reverse os) in
+    let turned : reverse pushed ≡ p ∷ reverse os = ap reverse s ∙ reverse-append os (p ∷ []) in
+    step ∙ ap (λ r. out ++ (lines (depth + 1) (written_child ds c) ++ pending ds base r)) turned
+    ∙ ap (λ k. out ++ (lines k (written_child ds c) ++ pending ds base (p ∷ reverse os))) (add-one depth)
+    ∙ ap (λ l. out ++ l) (sym (next_child ds base depth e o p (reverse os) c oe pe n within at deeper))

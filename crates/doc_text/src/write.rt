@@ -1,10 +1,10 @@
 // Writing a document: each element on a line of its own, by a stack of the elements that are open.
-ghost use Rattle.std.specs.Prelude.{◌≡◌, ◌++◌, IfOk, OnOk, List, reverse, length, find, filter, map, not, ℕ, ◌+◌, codes};
+ghost use Rattle.std.specs.Prelude.{◌≡◌, ◌++◌, IfOk, OnOk, List, reverse, length, find, filter, map, not, ℕ, ◌+◌, ◌-◌, ◌^◌, ◌<◌, ◌∷◌, codes};
 ghost use Rattle.std.specs.Option.{option_copied};
 ghost use Rattle.std.specs.Str.{bytes_eq};
 ghost use Rattle.std.specs.List.{flat_map};
 ghost use Rattle.doc_text.specs.Names.{prefix_of, written_name};
-ghost use Rattle.doc_text.specs.Written.{quoted, written_attribute, written_declaration, written_attributes, indent, written_element, written_child, opening, end_tag, lines, lone_text as lone_text_of, is_version as is_version_of};
+ghost use Rattle.doc_text.specs.Written.{quoted, written_attribute, written_declaration, written_attributes, indent, written_element, written_child, opening, end_tag, lines, written, lone_text as lone_text_of, is_version as is_version_of};
 ghost use Rattle.doc_text.specs.declared.tree.Prefix.{Prefix as SomePrefix};
 ghost use Rattle.doc_text.specs.Escapes.{escaped};
 ghost use Rattle.doc_text.specs.Pending.{pending};
@@ -212,8 +212,9 @@ fn push_start<'a>(
     element: &'a Element,
     depth: usize,
 ) -> Result<(), AllocError>
-    ensures { (base : ℕ) → base + length stack.old.items ≡ depth → OnOk result (out.new ++ pending declared.now base (reverse stack.new.items)
+    ensures written { (base : ℕ) → base + length stack.old.items ≡ depth → OnOk result (out.new ++ pending declared.now base (reverse stack.new.items)
         ≡ out.old ++ (written_element declared.now element.now depth ++ pending declared.now base (reverse stack.old.items))) }
+    ensures grows { OnOk result (length out.old < length out.new) }
 {
     push_opening(out, declared, element, depth)?;
     let children = element.children.as_slice();
@@ -236,8 +237,9 @@ fn push_child<'a>(
     child: &'a Child,
     depth: usize,
 ) -> Result<(), AllocError>
-    ensures { (base : ℕ) → base + length stack.old.items ≡ depth → OnOk result (out.new ++ pending declared.now base (reverse stack.new.items)
+    ensures written { (base : ℕ) → base + length stack.old.items ≡ depth → OnOk result (out.new ++ pending declared.now base (reverse stack.new.items)
         ≡ out.old ++ (lines depth (written_child declared.now child.now) ++ pending declared.now base (reverse stack.old.items))) }
+    ensures grows { OnOk result (length out.old < length out.new) }
 {
     match child {
         Child::Sub(element) => push_start(out, stack, declared, element, depth),
@@ -262,18 +264,49 @@ fn push_next<'a>(
     top: Open<'a>,
     depth: usize,
 ) -> Result<(), AllocError>
-    requires { depth < 2 ^ 63 }
+    requires { depth < 2 ^ 64 - 1 }
     ensures written { (base : ℕ) → base + length stack.old.items ≡ depth → OnOk result (out.new ++ pending declared.now base (reverse stack.new.items)
-        ≡ out.old ++ pending declared.now base (top ∷ reverse stack.old.items)) }
+        ≡ out.old ++ pending declared.now base (top.entry ∷ reverse stack.old.items)) }
     ensures grows { OnOk result (length out.old < length out.new) }
 {
-    let Some(child) = top.element.children.get(top.next) else {
+    let children = top.element.children.as_slice();
+    if top.next >= children.len() {
         push_indent(out, depth)?;
         return push_end_tag(out, declared, top.element);
-    };
+    }
     stack.push(Open {
         element: top.element,
         next: top.next + 1,
     })?;
-    push_child(out, stack, declared, child, depth + 1)
+    push_child(out, stack, declared, &children[top.next], depth + 1)
+}
+
+/// Adds the lines of an element, behind `depth` elements, with the namespaces that are declared around it.
+pub fn push_element(
+    alloc: Global,
+    out: &mut Text,
+    declared: &[Prefix],
+    element: &Element,
+    depth: usize,
+) -> Result<(), AllocError>
+    requires { depth < 2 ^ 32 }
+    ensures { OnOk result (out.new ≡ out.old ++ written_element declared.now element.now depth) }
+{
+    let mut stack = Vec::new(alloc);
+    push_start(out, &mut stack, declared, element, depth)?;
+    while let Some(top) = stack.pop() {
+        let behind = depth + stack.len();
+        push_next(out, &mut stack, declared, top, behind)?;
+    }
+    Ok(())
+}
+
+/// The text of a document: its declaration, and each element on a line of its own.
+pub fn write_doc(alloc: Global, doc: &Doc) -> Result<Text, AllocError>
+    ensures { IfOk result (λ t. t ≡ written doc.now) }
+{
+    let mut out = Text::new(alloc);
+    out.push_ascii("<?xml version=\"1.0\" encoding=\"UTF-8\"?>\n")?;
+    push_element(alloc, &mut out, doc.root.declared.as_slice(), &doc.root, 0)?;
+    Ok(out)
 }
