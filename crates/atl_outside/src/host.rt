@@ -1,0 +1,139 @@
+// Files and standard output of the operating system. They tell nothing of content, and count what goes wrong.
+ghost use Rattle.std.specs.Prelude.{◌≡◌, ◌≤◌, length, None, IfOk};
+
+use crate::files::{FileFault, Files};
+use crate::sink::{Sink, SinkFault};
+use atl_base::text::Text;
+use std::alloc::Global;
+use std::io::{ErrorKind, Read, Write};
+use std::marker::Model;
+use std::rt::Files as SystemFiles;
+use std::{fs, io};
+
+/// How many bytes a turn of a read asks for.
+const CHUNK: usize = 8192;
+
+/// The files of a runtime. Contracts see how often they have failed.
+#[derive(Drop)]
+pub struct HostFiles<'a, R: SystemFiles> {
+    rt: &'a R,
+    faults: u64,
+}
+
+impl<'a, R: SystemFiles> Model for HostFiles<'a, R> {
+    ghost use Rattle.std.specs.Prelude.{ℕ};
+
+    ghost Value = { ℕ };
+
+    ghost view = { λ files. files.faults };
+}
+
+impl<'a, R: SystemFiles> HostFiles<'a, R> {
+    pub fn new(rt: &'a R) -> HostFiles<'a, R>
+        ensures { result ≡ 0 }
+    {
+        HostFiles { rt, faults: 0 }
+    }
+}
+
+impl<'a, R: SystemFiles> Files for HostFiles<'a, R> {
+    ghost held = { λ _. None };
+
+    ghost faults = { λ files. files };
+
+    fn read(&mut self, alloc: Global, path: &Text, limit: u64) -> Result<Vec<u8>, FileFault> {
+        let answer = match fs::open(self.rt, path.as_str()) {
+            Ok(mut file) => read_to_end(alloc, &mut file, limit),
+            Err(_) => Err(FileFault::Failed),
+        };
+        if let Err(FileFault::Failed) = answer {
+            self.faults = self.faults.saturating_add(1);
+        }
+        answer
+    }
+
+    fn write(&mut self, _alloc: Global, path: &Text, bytes: &[u8]) -> Result<(), FileFault> {
+        let answer = match fs::create(self.rt, path.as_str()) {
+            Ok(mut file) => write_whole(&mut file, bytes),
+            Err(error) => Err(error),
+        };
+        if answer.is_ok() {
+            return Ok(());
+        }
+        self.faults = self.faults.saturating_add(1);
+        Err(FileFault::Failed)
+    }
+}
+
+/// Reads until a read gives no bytes, or more than `limit` came. Each turn takes at least one byte or ends the loop, so
+/// there are at most `limit + 1`.
+fn read_to_end<F: Read>(alloc: Global, from: &mut F, limit: u64) -> Result<Vec<u8>, FileFault>
+    ensures within { IfOk result (λ v. length v.items ≤ limit) }
+{
+    let mut bytes = Vec::new(alloc);
+    let mut chunk = [0u8; CHUNK];
+    loop {
+        let count = match from.read(&mut chunk) {
+            Ok(count) => count,
+            Err(_) => return Err(FileFault::Failed),
+        };
+        if count == 0 {
+            return Ok(bytes);
+        }
+        if count as u64 > limit - bytes.len() as u64 {
+            return Err(FileFault::TooBig);
+        }
+        bytes.extend_from_slice(&chunk[..count])?;
+    }
+}
+
+/// Writes all bytes and flushes. Each turn takes at least one byte or ends the loop, so there are at most as many turns as
+/// bytes.
+fn write_whole<W: Write>(to: &mut W, bytes: &[u8]) -> io::Result<()> {
+    let mut rest = bytes;
+    while !rest.is_empty() {
+        let count = to.write(rest)?;
+        if count == 0 {
+            return Err(io::Error::from(ErrorKind::WriteZero));
+        }
+        rest = &rest[count..];
+    }
+    to.flush()
+}
+
+/// The standard output of a runtime. Contracts see how often it has failed.
+#[derive(Drop)]
+pub struct HostSink<'a, R: Print> {
+    rt: &'a R,
+    faults: u64,
+}
+
+impl<'a, R: Print> Model for HostSink<'a, R> {
+    ghost use Rattle.std.specs.Prelude.{ℕ};
+
+    ghost Value = { ℕ };
+
+    ghost view = { λ sink. sink.faults };
+}
+
+impl<'a, R: Print> HostSink<'a, R> {
+    pub fn new(rt: &'a R) -> HostSink<'a, R>
+        ensures { result ≡ 0 }
+    {
+        HostSink { rt, faults: 0 }
+    }
+}
+
+impl<'a, R: Print> Sink for HostSink<'a, R> {
+    ghost taken = { λ _. None };
+
+    ghost faults = { λ sink. sink };
+
+    fn put(&mut self, _alloc: Global, bytes: &[u8]) -> Result<(), SinkFault> {
+        if write_whole(&mut io::writer(self.rt), bytes).is_ok() {
+            return Ok(());
+        }
+        self.faults = self.faults.saturating_add(1);
+        Err(SinkFault::Failed)
+    }
+}
