@@ -1,5 +1,5 @@
 -- Pairs of a path and bytes, and the map that they make: a pair pushed, or replaced where its path stands first.
-use Rattle.std.proofs.Common.{◌≡◌, ◌∙◌, refl, sym, ap, subst, ℕ, suc, ◌+◌, ◌≤◌, Bool, true, false, cond, List, [], ◌∷◌, ◌++◌, map, Option, Some, None, get_or, ◌<◌, length, drop, arith, zero-add, add-one}
+use Rattle.std.proofs.Common.{◌≡◌, ◌∙◌, refl, sym, ap, ℕ, suc, ◌+◌, ◌≤◌, Bool, true, false, cond, List, [], ◌∷◌, ◌++◌, map, Option, Some, None, get_or, ◌<◌, length, drop, arith, zero-add, add-one}
 use Rattle.std.specs.Prelude.{Vec}
 use Rattle.std.specs.declared.alloc.Global.{Global}
 use Rattle.std.proofs.Math.ListN.{set}
@@ -8,13 +8,13 @@ use Rattle.std.specs.Ordering.{nat_cmp, eq_by_cmp}
 use Rattle.std.specs.Cmp.Lexicographic.{slice_cmp, texts_ties, nat_list_cmp_total}
 use Rattle.std.specs.Str.{bytes_eq}
 use Rattle.std.specs.declared.cmp.Ordering.TheVariants.{Equal}
-use Rattle.std.specs.FinMap.{FinMap, find, get, insert, from_entries, get-insert, get-from_entries, same_map, nat_cmp-IsAntisymmetric, slice_cmp-IsAntisymmetric, from_entries_push}
+use Rattle.std.specs.FinMap.{find, from_entries, get-insert, get-from_entries, same_map, nat_cmp-IsAntisymmetric, slice_cmp-IsAntisymmetric, from_entries_push}
 use Rattle.std.proofs.lemmas.List.{map-append}
 use Rattle.std.proofs.Math.Seq.{drop-cons}
 use Rattle.std.proofs.Math.ListN.{drop_of_length-le}
 use Rattle.std.proofs.lemmas.Cmp.{nat_list_eq_equiv}
 use Rattle.std.proofs.lemmas.Slice.Eq.{bytes_eq-Decides}
-use Rattle.atl_outside.specs.Held.{Held, held_of, with_content, content_of}
+use Rattle.atl_outside.specs.Held.{held_of, with_content, content_of}
 
 abbrev pub Pair : Type 0
 Pair = List ℕ × Vec ℕ Global
@@ -89,10 +89,10 @@ exact = slice_cmp-IsAntisymmetric nat_cmp-IsAntisymmetric
 pub held_of-set : (es : List Pair) (i : ℕ) (path : List ℕ) (old new : Pair) → position_from (at_path path) 0 es ≡ Some i → old ≡ get_or es i old → new.0 ≡ old.0 → held_of (set es i new) ≡ with_content (held_of es) path new.1.items
 held_of-set es i path old new at is key =
     same_map nat_list_cmp_total exact _ _ (λ q.
-      get-from_entries nat_list_cmp_total (map entry (set es i new)) q
-      ∙ found-set es 0 i path q old new (at ∙ ap Some (sym (zero-add i))) is key
-      ∙ sym (get-insert nat_list_cmp_total (held_of es) path new.1.items q
-        ∙ ap (cond (eq_by_cmp (slice_cmp nat_cmp) q path) (Some new.1.items)) (get-from_entries nat_list_cmp_total (map entry es) q)))
+    get-from_entries nat_list_cmp_total (map entry (set es i new)) q
+    ∙ found-set es 0 i path q old new (at ∙ ap Some (sym (zero-add i))) is key
+    ∙ sym (get-insert nat_list_cmp_total (held_of es) path new.1.items q
+    ∙ ap (cond (eq_by_cmp (slice_cmp nat_cmp) q path) (Some new.1.items)) (get-from_entries nat_list_cmp_total (map entry es) q)))
 
 -- a pair whose path is new is pushed
 pub held_of-push : (es : List Pair) (path : List ℕ) (new : Pair) → position_from (at_path path) 0 es ≡ None → new.0 ≡ path → held_of (es ++ new ∷ []) ≡ with_content (held_of es) path new.1.items

@@ -1,11 +1,11 @@
 -- Files and a sink in memory whose calls fail as planned. A call that fails changes no content.
-use Rattle.std.specs.Prelude.{◌≡◌, ℕ, ◌<◌, Bool, ◌||◌, nat_lt, List, length, if◌then◌else◌, is_none, IsOk, Result, Ok, Err, Vec, refl}
+use Rattle.std.specs.Prelude.{◌≡◌, ℕ, Bool, ◌||◌, nat_lt, List, length, if◌then◌else◌, is_none, IsOk, Result, Ok, Err, Vec, refl}
 use Rattle.std.specs.Coded.{Coded, code_by, coded×, coded_list, coded_ℕ}
 use Rattle.std.specs.declared.alloc.Global.{Global}
 use Rattle.atl_outside.specs.declared.files.FileFault.{FileFault}
 use Rattle.atl_outside.specs.declared.files.FileFault.TheVariants.{Failed, TooBig, Memory}
 use Rattle.atl_outside.specs.Held.{Held, content_of, bytes_at, held_code}
-use Rattle.atl_outside.specs.Plan.{Plan, fails_next, plan_after}
+use Rattle.atl_outside.specs.Plan.{Plan, fails_next}
 
 pub record MemoryFiles : Type 0 where
   pub held : Held

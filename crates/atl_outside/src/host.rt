@@ -137,3 +137,123 @@ impl<'a, R: Print> Sink for HostSink<'a, R> {
         Err(SinkFault::Failed)
     }
 }
+
+#[cfg(test)]
+mod tests {
+    use super::*;
+    use std::env;
+    use std::fmt::Display;
+    use std::test::Fail;
+
+    /// Gives its bytes three at a time, and fails once its turns are over.
+    #[derive(Drop)]
+    struct Slow<'a> {
+        rest: &'a [u8],
+        turns: u8,
+    }
+
+    impl Read for Slow<'_> {
+        fn read(&mut self, buf: &mut [u8]) -> io::Result<usize> {
+            if self.turns == 0 {
+                return Err(io::Error::from(ErrorKind::Other));
+            }
+            self.turns -= 1;
+            let count = buf.len().min(self.rest.len()).min(3);
+            let (front, rest) = self.rest.split_at(count);
+            buf[..count].copy_from_slice(front);
+            self.rest = rest;
+            Ok(count)
+        }
+    }
+
+    /// Takes two bytes at a time while there is room, and then none.
+    #[derive(Drop)]
+    struct Narrow {
+        room: usize,
+    }
+
+    impl Write for Narrow {
+        fn write(&mut self, buf: &[u8]) -> io::Result<usize> {
+            let count = buf.len().min(self.room).min(2);
+            self.room -= count;
+            Ok(count)
+        }
+
+        fn flush(&mut self) -> io::Result<()> {
+            Ok(())
+        }
+    }
+
+    /// Takes nothing.
+    struct Closed;
+
+    impl Print for Closed {
+        fn print<D: Display + Drop>(&self, _value: D) -> io::Result<()> {
+            Err(io::Error::from(ErrorKind::BrokenPipe))
+        }
+
+        fn println<D: Display + Drop>(&self, _value: D) -> io::Result<()> {
+            Err(io::Error::from(ErrorKind::BrokenPipe))
+        }
+
+        fn write_all(&self, _bytes: &[u8]) -> io::Result<()> {
+            Err(io::Error::from(ErrorKind::BrokenPipe))
+        }
+    }
+
+    fn read_slowly(alloc: Global, turns: u8, limit: u64) -> Result<Vec<u8>, FileFault> {
+        let mut slow = Slow {
+            rest: b"abcdefgh",
+            turns,
+        };
+        read_to_end(alloc, &mut slow, limit)
+    }
+
+    #[test]
+    fn pieces_are_joined(rt: HostRuntime) -> Result<(), Fail> {
+        let alloc = rt.alloc();
+        assert!(rt; read_slowly(alloc, 4, 8)?.as_slice() == b"abcdefgh".as_slice());
+        assert!(rt; read_slowly(alloc, 4, u64::MAX)?.as_slice() == b"abcdefgh".as_slice());
+        assert!(rt; matches!(read_slowly(alloc, 4, 7), Err(FileFault::TooBig)));
+        assert!(rt;
+            matches!(read_slowly(alloc, 3, 8), Err(FileFault::Failed)),
+            "no end came"
+        );
+        Ok(())
+    }
+
+    #[test]
+    fn a_writer_that_takes_nothing_fails(rt: HostRuntime) {
+        assert!(rt; write_whole(&mut Narrow { room: 5 }, b"abcde").is_ok());
+        assert!(rt; write_whole(&mut Narrow { room: 5 }, b"abcdef").is_err());
+        assert!(rt; write_whole(&mut Narrow { room: 0 }, b"").is_ok());
+    }
+
+    #[test]
+    fn a_sink_over_standard_output(rt: HostRuntime) {
+        let alloc = rt.alloc();
+        let mut sink = HostSink::new(&rt);
+        assert!(rt; sink.put(alloc, b"taken\n").is_ok());
+        let mut closed = HostSink::new(&Closed);
+        assert_eq!(rt; closed.put(alloc, b"lost\n"), Err(SinkFault::Failed));
+    }
+
+    #[test]
+    fn a_file_is_written_and_read(rt: HostRuntime) -> Result<(), Fail> {
+        let alloc = rt.alloc();
+        let mut name = env::temp_dir(&rt)?;
+        name.push("atl_outside_written_and_read")?;
+        let path = Text::from_bytes(alloc, name.as_str().as_bytes())?;
+        let mut files = HostFiles::new(&rt);
+        files.write(alloc, &path, b"a longer text")?;
+        files.write(alloc, &path, b"abc")?;
+        assert!(rt; files.read(alloc, &path, 3)?.as_slice() == b"abc".as_slice());
+        assert!(rt; matches!(files.read(alloc, &path, 2), Err(FileFault::TooBig)));
+        fs::remove_file(&rt, path.as_str())?;
+        assert!(rt;
+            matches!(files.read(alloc, &path, 3), Err(FileFault::Failed)),
+            "no such file"
+        );
+        Ok(())
+    }
+}

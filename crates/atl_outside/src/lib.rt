@@ -9,3 +9,5 @@ mod path_table;
 mod plan;
 pub mod sink;
 pub mod sure;
+#[cfg(test)]
+mod tests;

@@ -25,9 +25,11 @@ impl Model for CallPlan {
 fn has_next(fails: &[u64], calls: u64) -> bool
     ensures { result ≡ list_any (λ number. number == calls + 1) fails.now }
 {
-    fails.iter().any(|number| -> bool
-        ensures { result ≡ (number.now == calls + 1) }
-    { *number > 0 && *number - 1 == calls })
+    fails.iter().any(
+        |number| -> bool
+            ensures { result ≡ (number.now == calls + 1) }
+        { *number > 0 && *number - 1 == calls },
+    )
 }
 
 impl CallPlan {
