@@ -1,7 +1,8 @@
--- Which calls on an object in memory fail: those whose numbers are listed, counted from 1. Both counters stop at the last
--- value of 64 bits; no number is left for the calls behind that many, and they don't fail.
-use Rattle.std.specs.Prelude.{ℕ, ◌+◌, ◌-◌, ◌^◌, ◌==◌, min, Bool, List, if◌then◌else◌}
+-- Which calls on an object in memory fail: those whose numbers are listed, counted from 1. Both counters stop at their
+-- last value; no number is left for the calls behind that many, and they don't fail.
+use Rattle.std.specs.Prelude.{ℕ, ◌+◌, ◌==◌, Bool, List, if◌then◌else◌}
 use Rattle.std.specs.List.{list_any}
+use Rattle.atl_outside.specs.Rose.{count_after}
 
 pub record Plan : Type 0 where
   -- the numbers of the calls that fail
@@ -14,10 +15,6 @@ pub record Plan : Type 0 where
 -- before the first call
 abbrev pub new_plan : List ℕ → Plan
 new_plan fails = record { fails = fails; calls = 0; faults = 0 }
-
--- one more, up to the counter's last value
-abbrev pub count_after : ℕ → ℕ
-count_after n = min (n + 1) (2 ^ 64 - 1)
 
 -- whether the next call is listed
 abbrev pub fails_next : Plan → Bool

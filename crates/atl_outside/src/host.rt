@@ -1,5 +1,6 @@
 // Files and standard output of the operating system. They tell nothing of content, and count what goes wrong.
-ghost use Rattle.std.specs.Prelude.{◌≡◌, ◌≤◌, length, None, IfOk};
+ghost use Rattle.std.specs.Prelude.{◌≡◌, ◌≤◌, ◌<◌, length, None, IfOk, IfSome, OnOk, IsErrOf};
+ghost use Rattle.std.specs.Io.KnownBytes.{Appends};
 
 use crate::files::{FileFault, Files};
 use crate::sink::{Sink, SinkFault};
@@ -69,6 +70,10 @@ impl<'a, R: SystemFiles> Files for HostFiles<'a, R> {
 /// there are at most `limit + 1`.
 fn read_to_end<F: Read>(alloc: Global, from: &mut F, limit: u64) -> Result<Vec<u8>, FileFault>
     ensures within { IfOk result (λ v. length v.items ≤ limit) }
+
+    // where it is known what the reader has left
+    ensures bytes { IfSome (F.remaining from.old) (λ left. IfOk result (λ v. v.items ≡ left)) }
+    ensures too_big { IfSome (F.remaining from.old) (λ left. IsErrOf result FileFault.TooBig → limit < length left) }
 {
     let mut bytes = Vec::new(alloc);
     let mut chunk = [0u8; CHUNK];
@@ -89,7 +94,9 @@ fn read_to_end<F: Read>(alloc: Global, from: &mut F, limit: u64) -> Result<Vec<u
 
 /// Writes all bytes and flushes. Each turn takes at least one byte or ends the loop, so there are at most as many turns as
 /// bytes.
-fn write_whole<W: Write>(to: &mut W, bytes: &[u8]) -> io::Result<()> {
+fn write_whole<W: Write>(to: &mut W, bytes: &[u8]) -> io::Result<()>
+    ensures { OnOk result (Appends (W.contents to.old) (W.contents to.new) bytes.now) }
+{
     let mut rest = bytes;
     while !rest.is_empty() {
         let count = to.write(rest)?;
