@@ -2,5 +2,6 @@
 #![tactic(auto)]
 
 mod source;
+mod words;
 
 fn main() {}
