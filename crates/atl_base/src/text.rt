@@ -73,6 +73,16 @@ impl Text {
         })
     }
 
+    /// The text of a literal.
+    pub fn from_ascii(alloc: Global, literal: &str) -> Result<Text, AllocError>
+        requires { IsTrue (list_all is_ascii_text literal.now) }
+        ensures { IfOk result (λ t. t ≡ literal.now) }
+    {
+        let mut text = Text::new(alloc);
+        text.push_ascii(literal)?;
+        Ok(text)
+    }
+
     pub fn as_str(&self) -> &str
         ensures text { result.now ≡ self.now }
         ensures xml { IsXmlText self.now }

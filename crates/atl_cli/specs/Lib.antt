@@ -1,3 +1,4 @@
 pub mod Plain
 pub mod Source
+pub mod Status
 pub mod Words

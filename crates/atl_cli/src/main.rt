@@ -1,7 +1,9 @@
 //! The command line.
 #![tactic(auto)]
 
+mod one_rule;
 mod source;
+mod status;
 mod words;
 
 fn main() {}
