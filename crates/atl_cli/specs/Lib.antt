@@ -1,4 +1,4 @@
+pub mod Flat
 pub mod Plain
 pub mod Source
 pub mod Status
-pub mod Words

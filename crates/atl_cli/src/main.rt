@@ -1,9 +1,9 @@
 //! The command line.
 #![tactic(auto)]
 
+mod flat;
 mod one_rule;
 mod source;
 mod status;
-mod words;
 
 fn main() {}

@@ -6,4 +6,4 @@ pub mod tree;
 mod write;
 
 pub use escape::{Escapes, push_escaped};
-pub use write::{XMI, push_element, push_end_tag, push_opening, write_doc};
+pub use write::{DECLARATION, XMI, push_element, push_end_tag, push_opening, write_doc};

@@ -17,6 +17,9 @@ use std::alloc::{AllocError, Global};
 /// The namespace of XMI's attributes and of the element around several roots.
 pub const XMI: &str = "http://www.omg.org/XMI";
 
+/// The line that every written document begins with.
+pub const DECLARATION: &str = "<?xml version=\"1.0\" encoding=\"UTF-8\"?>\n";
+
 // An element whose start tag is written, and the place of its next child.
 #[derive(Clone, Copy)]
 struct Open<'a> {
@@ -305,8 +308,7 @@ pub fn push_element(
 pub fn write_doc(alloc: Global, doc: &Doc) -> Result<Text, AllocError>
     ensures { IfOk result (λ t. t ≡ written doc.now) }
 {
-    let mut out = Text::new(alloc);
-    out.push_ascii("<?xml version=\"1.0\" encoding=\"UTF-8\"?>\n")?;
+    let mut out = Text::from_ascii(alloc, DECLARATION)?;
     push_element(alloc, &mut out, doc.root.declared.as_slice(), &doc.root, 0)?;
     Ok(out)
 }
