@@ -30,6 +30,7 @@ impl<'a, R: SystemFiles> Model for HostFiles<'a, R> {
 }
 
 impl<'a, R: SystemFiles> HostFiles<'a, R> {
+    /// The runtime's files, which have not failed yet.
     pub fn new(rt: &'a R) -> HostFiles<'a, R>
         ensures { result ≡ 0 }
     {
@@ -124,6 +125,7 @@ impl<'a, R: Print> Model for HostSink<'a, R> {
 }
 
 impl<'a, R: Print> HostSink<'a, R> {
+    /// The runtime's standard output, which has not failed yet.
     pub fn new(rt: &'a R) -> HostSink<'a, R>
         ensures { result ≡ 0 }
     {

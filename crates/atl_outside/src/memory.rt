@@ -1,14 +1,13 @@
 // Files and a sink in memory, whose calls fail where they are told to.
-ghost use Rattle.std.specs.Prelude.{◌≡◌, ◌≤◌, ◌<◌, ◌++◌, ◌⊎◌, ◌↔◌, [], length, false, Some, IsTrue, is_some, IfOk, OnOk, OnErr, IfSome, IsErrOf, nat_lt, Ok, Err, if◌then◌else◌};
-ghost use Rattle.std.specs.Option.{option_map, option_copied};
-ghost use Rattle.atl_outside.specs.Held.{content_of, bytes_at, with_content, held_of, SameElsewhere};
+ghost use Rattle.std.specs.Prelude.{◌≡◌, ◌≤◌, ◌++◌, ◌↔◌, [], false, Some, IsTrue, OnOk, OnErr, IsErrOf};
+ghost use Rattle.std.specs.Option.{option_copied};
+ghost use Rattle.atl_outside.specs.Held.{content_of, with_content, held_of, SameElsewhere};
 ghost use Rattle.atl_outside.specs.Memory.{read_fails, read_answer, GivesOrMemory};
 ghost use Rattle.atl_outside.specs.Plan.{new_plan, fails_next, plan_after};
-ghost use Rattle.atl_outside.specs.Rose.{Rose};
 ghost use Rattle.atl_outside.specs.Taken.{TakesFront};
 
 use crate::files::{FileFault, Files};
-use crate::path_table::PathTable;
+use crate::path_table::{PathTable, read_within};
 use crate::plan::CallPlan;
 use crate::sink::{Sink, SinkFault};
 use atl_base::text::Text;
@@ -86,16 +85,6 @@ impl Files for MemFiles {
         }
         Ok(self.table.set(alloc, path, bytes)?)
     }
-}
-
-/// A copy of the bytes, if they are within the limit.
-fn read_within(alloc: Global, bytes: &[u8], limit: u64) -> Result<Vec<u8>, FileFault>
-    ensures { GivesOrMemory result (if nat_lt limit (length bytes.now) then Err FileFault.TooBig else Ok bytes.now) }
-{
-    if bytes.len() as u64 > limit {
-        return Err(FileFault::TooBig);
-    }
-    Ok(Vec::from_slice(alloc, bytes)?)
 }
 
 /// A sink in memory. Its puts are counted from 1, and those whose numbers are listed fail and take nothing.

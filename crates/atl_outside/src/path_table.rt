@@ -1,10 +1,12 @@
 // Paths with their bytes, as pairs in order of first sight. A look-up goes along them, which suits a few paths.
-ghost use Rattle.std.specs.Prelude.{◌≡◌, ◌<◌, length, IfSome, OnOk, OnErr};
+ghost use Rattle.std.specs.Prelude.{◌≡◌, ◌<◌, length, IfSome, OnOk, OnErr, nat_lt, if◌then◌else◌};
 ghost use Rattle.std.specs.Option.{option_copied};
 ghost use Rattle.std.specs.List.{position_from};
 ghost use Rattle.std.specs.Str.{bytes_eq};
 ghost use Rattle.atl_outside.specs.Held.{content_of, with_content, held_of};
+ghost use Rattle.atl_outside.specs.Memory.{GivesOrMemory};
 
+use crate::files::FileFault;
 use atl_base::text::Text;
 use std::alloc::{AllocError, Global};
 use std::marker::Model;
@@ -34,6 +36,7 @@ fn place_of(pairs: &[(Text, Vec<u8>)], path: &Text) -> Option<usize>
 }
 
 impl PathTable {
+    /// What these pairs hold.
     pub fn new(pairs: Vec<(Text, Vec<u8>)>) -> PathTable
         ensures { result ≡ held_of pairs.items }
     {
@@ -64,4 +67,14 @@ impl PathTable {
         }
         Ok(())
     }
+}
+
+/// A copy of the bytes, if they are within the limit.
+pub fn read_within(alloc: Global, bytes: &[u8], limit: u64) -> Result<Vec<u8>, FileFault>
+    ensures { GivesOrMemory result (if nat_lt limit (length bytes.now) then Err FileFault.TooBig else Ok bytes.now) }
+{
+    if bytes.len() as u64 > limit {
+        return Err(FileFault::TooBig);
+    }
+    Ok(Vec::from_slice(alloc, bytes)?)
 }

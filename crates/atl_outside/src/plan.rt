@@ -33,6 +33,7 @@ fn has_next(fails: &[u64], calls: u64) -> bool
 }
 
 impl CallPlan {
+    /// These numbers, before the first call.
     pub fn new(fails: Vec<u64>) -> CallPlan
         ensures { result ≡ new_plan fails.items }
     {

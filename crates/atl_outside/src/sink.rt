@@ -1,5 +1,5 @@
 // A place where bytes go, in order.
-ghost use Rattle.std.specs.Prelude.{◌≡◌, ◌≤◌, ◌++◌, ℕ, List, OnOk, IsErrOf};
+ghost use Rattle.std.specs.Prelude.{◌≡◌, ◌≤◌, ◌++◌, ℕ, List, is_some, OnOk, IsErrOf};
 ghost use Rattle.std.specs.Option.{option_map};
 ghost use Rattle.std.specs.declared.option.Option.{Option};
 ghost use Rattle.atl_outside.specs.declared.sink.SinkFault.TheVariants.{Memory};
@@ -39,5 +39,6 @@ pub trait Sink {
         ensures failed { IsErrOf result SinkFault.Failed → Rose (faults self.old) (faults self.new) }
         ensures ok { OnOk result (taken self.new ≡ option_map (λ before. before ++ bytes.now) (taken self.old)) }
         ensures front { IsErrOf result SinkFault.Failed → TakesFront bytes.now (taken self.old) (taken self.new) }
-        ensures memory { IsErrOf result SinkFault.Memory → taken self.new ≡ taken self.old };
+        ensures memory { IsErrOf result SinkFault.Memory → taken self.new ≡ taken self.old }
+        ensures told { is_some (taken self.new) ≡ is_some (taken self.old) };
 }

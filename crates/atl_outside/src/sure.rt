@@ -4,7 +4,7 @@ ghost use Rattle.std.specs.Option.{option_copied};
 ghost use Rattle.atl_outside.specs.Held.{content_of, held_of};
 
 use crate::files::{FileFault, Files};
-use crate::path_table::PathTable;
+use crate::path_table::{PathTable, read_within};
 use crate::sink::{Sink, SinkFault};
 use atl_base::text::Text;
 use std::alloc::Global;
@@ -51,10 +51,7 @@ impl Files for SureFiles {
 
     fn read(&mut self, alloc: Global, path: &Text, limit: u64) -> Result<Vec<u8>, FileFault> {
         let bytes = self.table.content(path).unwrap_or(&[]);
-        if bytes.len() as u64 > limit {
-            return Err(FileFault::TooBig);
-        }
-        Ok(Vec::from_slice(alloc, bytes)?)
+        read_within(alloc, bytes, limit)
     }
 
     fn write(&mut self, alloc: Global, path: &Text, bytes: &[u8]) -> Result<(), FileFault> {
@@ -77,6 +74,7 @@ impl Model for SureSink {
 }
 
 impl SureSink {
+    /// A sink that has taken nothing.
     pub fn new(alloc: Global) -> SureSink
         ensures { result ≡ [] }
     {
