@@ -1,5 +1,5 @@
 -- The words of `transform`: the command, the module's path, and four pairs NAME=path in any order.
-use Rattle.std.specs.Prelude.{◌≡◌, ◌≢◌, ℕ, ◌+◌, ◌<◌, ◌==◌, Bool, true, false, not, List, [], ◌∷◌, ◌++◌, map, length, take, drop, IsTrue, All, AllPairs, codes}
+use Rattle.std.specs.Prelude.{◌≡◌, ◌≢◌, ℕ, ◌+◌, ◌<◌, ◌==◌, Bool, false, not, List, [], ◌∷◌, ◌++◌, map, length, take, drop, IsTrue, All, AllPairs, codes}
 use Rattle.std.specs.List.{list_any, list_all}
 use Rattle.atl_cli.specs.declared.words.Pair.{Pair}
 use Rattle.atl_cli.specs.declared.words.Request.{Request}

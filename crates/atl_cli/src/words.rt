@@ -97,6 +97,13 @@ fn names_differ(pairs: &[Pair]) -> bool
     true
 }
 
+// Whether every word is neither empty nor an option.
+fn are_plain(words: &[Text]) -> bool
+    ensures { result ≡ list_all is_plain_word_of words.now }
+{
+    words.iter().all(is_plain_word)
+}
+
 /// The request that the words make, where they are of the form.
 pub fn read_words(alloc: Global, words: &[Text]) -> Result<Option<Request>, AllocError>
     ensures { IfOk result (λ read. MatchOption read ((r : SomeRequest) → IsRequest words.now r → ⊥) (λ r. IsRequest words.now r)) }
@@ -104,7 +111,7 @@ pub fn read_words(alloc: Global, words: &[Text]) -> Result<Option<Request>, Allo
     if words.len() != 6 {
         return Ok(None);
     }
-    if words[0].as_str() != "transform" || !words.iter().all(is_plain_word) {
+    if words[0].as_str() != "transform" || !are_plain(words) {
         return Ok(None);
     }
     let Some(pairs) = read_pairs(alloc, &words[2..])? else {

@@ -1,4 +1,4 @@
-use Rattle.std.proofs.Common.{◌∙◌, sym, subst}
+use Rattle.std.proofs.Common.{◌∙◌, subst}
 use Rattle.atl_cli.specs.Words.{SplitsAt}
 use Rattle.atl_cli.proofs.Pairs.{cut_after, cut_start, no_path}
 use Rattle.atl_cli.proofs.words.read_pair.Goals as goal
