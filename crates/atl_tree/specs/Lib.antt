@@ -1,0 +1,5 @@
+pub mod Cutting
+pub mod Machine
+pub mod Pieces
+pub mod Scanner
+pub mod Tokens
