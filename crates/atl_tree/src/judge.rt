@@ -1,5 +1,5 @@
 // Which tokens are refused: numbers that are too wide or have a fraction, a division sign, and the type `Real`.
-ghost use Rattle.std.specs.Prelude.{◌≡◌, ◌||◌, List, [], drop};
+ghost use Rattle.std.specs.Prelude.{◌≡◌, false};
 ghost use Rattle.atl_tree.specs.Tokens.{is_wide as is_wide_text, has_fraction as has_fraction_text, is_mark, leads_name as leads_name_of, begins_arrow as begins_arrow_of, fault_of, first_fault as first_fault_of};
 
 use crate::token::{LexRefusal, Token, TokenSort};
@@ -16,10 +16,11 @@ fn is_wide(text: &[u8]) -> bool
         if !byte.is_ascii_digit() {
             return false;
         }
-        value = value * 10 + u64::from(*byte - b'0');
-        if value > GREATEST {
+        let digit = u64::from(*byte - b'0');
+        if value > (GREATEST - digit) / 10 {
             return true;
         }
+        value = value * 10 + digit;
     }
     false
 }
