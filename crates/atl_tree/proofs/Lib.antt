@@ -1,2 +1,3 @@
 pub mod Judged
 pub mod Simulation
+pub mod Told
