@@ -1,3 +1,4 @@
 pub mod Judged
 pub mod Simulation
 pub mod Told
+pub mod Walks
