@@ -1,3 +1,4 @@
+pub mod Cuts
 pub mod Judged
 pub mod Simulation
 pub mod Told

@@ -138,7 +138,7 @@ all-of w ps qs h e = let same : ps ≡ qs = cc in ap chars_of (sym same) ∙ h
 one-of : (o : Option TokenSort) (w : List ℕ) (qs : List Piece) → Some (piece o w ∷ []) ≡ Some qs → chars_of qs ≡ w
 one-of o w qs e = all-of w (piece o w ∷ []) qs (append-nil w) e
 
-take-front : (front : List ℕ) (c : ℕ) → take (length (front ++ (c ∷ [])) - 1) (front ++ (c ∷ [])) ≡ front
+pub take-front : (front : List ℕ) (c : ℕ) → take (length (front ++ (c ∷ [])) - 1) (front ++ (c ∷ [])) ≡ front
 take-front front c = take_at front (c ∷ []) (length (front ++ (c ∷ [])) - 1) (omega (arith, length-append front (c ∷ [])))
 
 pub ended-chars : (s : State) (w : List ℕ) (qs : List Piece) → Fits s w → ended s w ≡ Some qs → chars_of qs ≡ w

@@ -75,7 +75,7 @@ leads-plain [] h = absurd h
 leads-plain (c ∷ cs) h =
     ap (λ s. walk s cs) (begin-letter c h.0) ∙ walk-all S.Plain (λ d. is_letter d || is_digit d) cs (λ d g. yes (is_letter d || is_digit d) S.Plain S.Dead g) h.1
 
-leads-digits : (w : List ℕ) → IsDigits w → walk S.Start w ≡ S.Number
+pub leads-digits : (w : List ℕ) → IsDigits w → walk S.Start w ≡ S.Number
 leads-digits [] h = absurd h
 leads-digits (c ∷ cs) h =
     ap (λ s. walk s cs) (begin-digit c h.0) ∙ walk-all S.Number is_digit cs (λ d g. yes (is_digit d) S.Number _ g) h.1
@@ -148,6 +148,27 @@ begin-single c =
     let P : ℕ → Type 0 = λ n. begin_of n ≡ S.Done T.Mark in
     named P _ c 47 (named P _ c 35 (named P _ c 124 (named P _ c 46 (named P _ c 42 (named P _ c 43 (named P _ c 61 (named P _ c 33 (named P _ c 125 (named P _ c 123
         (named P _ c 41 (named P _ c 40 (named P _ c 44 (named P _ c 58 (only P c 59 refl) refl) refl) refl) refl) refl) refl) refl) refl) refl) refl) refl) refl) refl) refl
+
+-- the point
+pub begin-dot : begin_of 46 ≡ S.Done T.Mark
+unfolding begin_of is_letter is_digit is_gap is_single
+begin-dot = refl
+
+pub minus-mark : IsMark (45 ∷ [])
+unfolding is_single
+minus-mark = refl
+
+pub less-mark : IsMark (60 ∷ [])
+unfolding is_single
+less-mark = refl
+
+pub greater-mark : IsMark (62 ∷ [])
+unfolding is_single
+greater-mark = refl
+
+pub dot-mark : IsMark (46 ∷ [])
+unfolding is_single
+dot-mark = refl
 
 begin-gap : (c : ℕ) → is_gap c ≡ true → begin_of c ≡ S.Gap
 unfolding begin_of is_letter is_digit is_gap
