@@ -3,3 +3,4 @@ pub mod Judged
 pub mod Simulation
 pub mod Told
 pub mod Walks
+pub mod Exact

@@ -1,5 +1,6 @@
 pub mod Cutting
 pub mod Machine
 pub mod Pieces
+pub mod Refusals
 pub mod Scanner
 pub mod Tokens
