@@ -76,7 +76,7 @@ verdict-err None Open l end e h = let same : R.OpenText end ≡ e = cc in open_i
 
 -- ---- why the machine stopped
 
-over-at-end : (s : Stop) (rest : List ℕ) → Why s rest → rest ≡ [] → s ≡ Over
+pub over-at-end : (s : Stop) (rest : List ℕ) → Why s rest → rest ≡ [] → s ≡ Over
 over-at-end Over rest w e = refl
 over-at-end Bad rest w e = absurd (let h : w.0 ∷ w.1 ≡ [] = sym w.2 ∙ e in cc)
 over-at-end Open rest w e = absurd (let h : w.0 ∷ w.1 ≡ [] = sym w.2 ∙ e in cc)
@@ -177,3 +177,13 @@ module _ (text : List ℕ) where
 
   pub exact : IsExact text
   exact = record { reads = reads-so; tells = tells-so; refused = refused-so; refuses = refuses-so; }
+
+  -- where the answer is a bad character the machine stopped at one
+  pub stopped-bad : (p : Place) → tokens_of text ≡ Err (R.BadByte p) → ((cut_of (body_of text)).stop ≡ Bad) × (p ≡ after (place 1 1) (chars_of (cut_of (body_of text)).pieces))
+  stopped-bad p h = by-blame (verdict-err _ _ _ _ (R.BadByte p) (sym now ∙ h))
+    where
+      by-blame : Blame (first_fault false (front_tokens text (cut_of (body_of text)).pieces)) (cut_of (body_of text)).stop (after (place 1 1) (chars_of (cut_of (body_of text)).pieces)) (R.BadByte p)
+          → ((cut_of (body_of text)).stop ≡ Bad) × (p ≡ after (place 1 1) (chars_of (cut_of (body_of text)).pieces))
+      by-blame (token_is f) = absurd (subst IsMaybeFault f (first-kind false (front_tokens text (cut_of (body_of text)).pieces)))
+      by-blame (bad_is f s k) = (s, let same : p ≡ after (place 1 1) (chars_of (cut_of (body_of text)).pieces) = cc in same)
+      by-blame (open_is f s k) = absurd cc

@@ -4,3 +4,4 @@ pub mod Simulation
 pub mod Told
 pub mod Walks
 pub mod Exact
+pub mod Fronts

@@ -73,13 +73,13 @@ neither : {A : Type 0} (b : Bool) (x y z : A) → (x ≡ z → ⊥) → (y ≡ z
 neither true x y z f g e = f e
 neither false x y z f g e = g e
 
-begin-point : (c : ℕ) → begin_of c ≡ S.Point → ⊥
+pub begin-point : (c : ℕ) → begin_of c ≡ S.Point → ⊥
 unfolding begin_of
 begin-point c = neither (is_letter c) S.Plain _ S.Point (λ e. cc) (neither (is_digit c) S.Number _ S.Point (λ e. cc) (neither (is_gap c) S.Gap _ S.Point (λ e. cc)
     (neither (is_single c) (S.Done T.Mark) _ S.Point (λ e. cc) (neither (c == 34) S.Quoted _ S.Point (λ e. cc) (neither (c == 39) S.Words _ S.Point (λ e. cc)
     (neither (c == 45) S.Minus _ S.Point (λ e. cc) (neither (c == 60) S.Less _ S.Point (λ e. cc) (neither (c == 62) S.Greater S.Dead S.Point (λ e. cc) (λ e. cc)))))))))
 
-begin-start : (c : ℕ) → begin_of c ≡ S.Start → ⊥
+pub begin-start : (c : ℕ) → begin_of c ≡ S.Start → ⊥
 unfolding begin_of
 begin-start c = neither (is_letter c) S.Plain _ S.Start (λ e. cc) (neither (is_digit c) S.Number _ S.Start (λ e. cc) (neither (is_gap c) S.Gap _ S.Start (λ e. cc)
     (neither (is_single c) (S.Done T.Mark) _ S.Start (λ e. cc) (neither (c == 34) S.Quoted _ S.Start (λ e. cc) (neither (c == 39) S.Words _ S.Start (λ e. cc)
@@ -91,7 +91,7 @@ number-point true d e = cc
 number-point false true e = refl
 number-point false false e = cc
 
-next-point : (s : State) (c : ℕ) → next_of s c ≡ S.Point → c ≡ 46
+pub next-point : (s : State) (c : ℕ) → next_of s c ≡ S.Point → c ≡ 46
 next-point S.Start c e = absurd (begin-point c e)
 next-point S.Plain c e = absurd (neither (is_letter c || is_digit c) S.Plain S.Dead S.Point (λ h. cc) (λ h. cc) e)
 next-point S.Number c e = eqb-true c 46 (number-point (is_digit c) (c == 46) e)
@@ -108,7 +108,7 @@ next-point S.Gap c e = absurd cc
 next-point (S.Done s) c e = absurd cc
 next-point S.Dead c e = absurd cc
 
-next-start : (s : State) (c : ℕ) → next_of s c ≡ S.Start → ⊥
+pub next-start : (s : State) (c : ℕ) → next_of s c ≡ S.Start → ⊥
 next-start S.Start c = begin-start c
 next-start S.Plain c = neither (is_letter c || is_digit c) S.Plain S.Dead S.Start (λ h. cc) (λ h. cc)
 next-start S.Number c = neither (is_digit c) S.Number _ S.Start (λ h. cc) (neither (c == 46) S.Point S.Dead S.Start (λ h. cc) (λ h. cc))
@@ -126,7 +126,7 @@ next-start (S.Done s) c = λ e. cc
 next-start S.Dead c = λ e. cc
 
 -- what the next state wants of what has been read: the seen ones and one more
-Fits-next : (t : State) (w : List ℕ) (c : ℕ) → (t ≡ S.Start → ⊥) → (t ≡ S.Point → c ≡ 46) → Fits t (w ++ (c ∷ []))
+pub Fits-next : (t : State) (w : List ℕ) (c : ℕ) → (t ≡ S.Start → ⊥) → (t ≡ S.Point → c ≡ 46) → Fits t (w ++ (c ∷ []))
 Fits-next S.Start w c f g = absurd (f refl)
 Fits-next S.Point w c f g = (w, ap (λ d. w ++ (d ∷ [])) (g refl))
 Fits-next s w c f g = tt

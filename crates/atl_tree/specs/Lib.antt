@@ -3,4 +3,5 @@ pub mod Machine
 pub mod Pieces
 pub mod Refusals
 pub mod Scanner
+pub mod Slices
 pub mod Tokens

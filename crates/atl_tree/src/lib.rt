@@ -5,6 +5,7 @@ mod cursor;
 pub mod expr;
 mod judge;
 pub mod kind;
+pub mod laws;
 pub mod lex;
 pub mod module;
 pub mod name;
