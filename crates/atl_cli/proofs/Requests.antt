@@ -37,8 +37,8 @@ names_clash ps i x lt is (k, y, within, at, same) all =
 pub one_more_name : (ps : List Pair) (i : ℕ) (x : Pair) → i < length ps → x ≡ get_or ps i x → (Any (λ p. p.name ≡ x.name) (take i ps) → ⊥) → AllPairs (λ p q. p.name ≢ q.name) (take i ps) → AllPairs (λ p q. p.name ≢ q.name) (take (i + 1) ps)
 one_more_name ps i x lt is none before =
     subst (λ l. AllPairs Differ l) (sym (take_more ps i x lt))
-      (all_pairs_push Differ (take i ps) (get_or ps i x) before
-        (λ k d within same. none (k, get_or (take i ps) k d, within, get_or_default (take i ps) k (get_or (take i ps) k d) d within, same ∙ ap (λ p. p.name) (sym is))))
+    (all_pairs_push Differ (take i ps) (get_or ps i x) before
+    (λ k d within same. none (k, get_or (take i ps) k d, within, get_or_default (take i ps) k (get_or (take i ps) k d) d within, same ∙ ap (λ p. p.name) (sym is))))
 
 -- a pair is told by its word, and pairs by their words
 same_pair : (p q : Pair) → IsPair p → IsPair q → pair_word p ≡ pair_word q → p ≡ q

@@ -125,3 +125,6 @@ pub fn read_words(alloc: Global, words: &[Text]) -> Result<Option<Request>, Allo
         pairs,
     }))
 }
+
+#[cfg(test)]
+mod tests;

@@ -18,7 +18,7 @@ returns c =
     let rest = sym (from_third words) ∙ read.1 in
     record {
       spelled =
-        spelled_so words c.index-words-0.result c.index-words-1.result c.in-Some.pairs c.if-words-ne6.false c.index-words-0.is c.index-words-1.is (sym c.as_str.ensures.text ∙ same_bytes _ _ c.if-ne.ensures) rest
+          spelled_so words c.index-words-0.result c.index-words-1.result c.in-Some.pairs c.if-words-ne6.false c.index-words-0.is c.index-words-1.is (sym c.as_str.ensures.text ∙ same_bytes _ _ c.if-ne.ensures) rest
           ∙ ap (λ m. codes "transform" ∷ (m ∷ map pair_word c.in-Some.pairs)) (sym c.in_ok-copy.ensures);
       plain = sym c.if-not-are_plain.ensures ∙ refl;
       four = four_pairs words c.in-Some.pairs c.if-words-ne6.false rest;
