@@ -1,6 +1,6 @@
 -- The plainest source: a file of elements without children, each with attributes of text. One element may stand alone;
 -- otherwise they stand in an element xmi:XMI, each on a line of its own.
-use Rattle.std.specs.Prelude.{◌≡◌, ◌≢◌, ◌⊎◌, ℕ, ◌||◌, ◌==◌, Bool, true, false, not, List, [], ◌∷◌, ◌++◌, map, if◌then◌else◌, IsTrue, AllPairs, codes}
+use Rattle.std.specs.Prelude.{◌≡◌, ◌≢◌, ◌⊎◌, ℕ, ◌||◌, ◌==◌, Bool, not, List, [], ◌∷◌, ◌++◌, map, if◌then◌else◌, IsTrue, AllPairs, codes}
 use Rattle.std.specs.List.{flat_map, list_all, AllByRecursion}
 use Rattle.atl_base.specs.XmlText.{IsXmlText}
 use Rattle.atl_cli.specs.declared.source.SourceAttribute.{SourceAttribute}

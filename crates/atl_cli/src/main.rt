@@ -5,5 +5,7 @@ mod flat;
 mod one_rule;
 mod source;
 mod status;
+mod transform;
+mod words;
 
 fn main() {}

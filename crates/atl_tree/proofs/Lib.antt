@@ -1,0 +1,7 @@
+pub mod Cuts
+pub mod Judged
+pub mod Simulation
+pub mod Told
+pub mod Walks
+pub mod Exact
+pub mod Fronts

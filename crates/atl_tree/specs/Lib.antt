@@ -1,0 +1,7 @@
+pub mod Cutting
+pub mod Machine
+pub mod Pieces
+pub mod Refusals
+pub mod Scanner
+pub mod Slices
+pub mod Tokens

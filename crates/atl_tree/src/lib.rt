@@ -1,0 +1,14 @@
+//! The tokens of a module's text, and the trees that modules and expressions are read into.
+#![tactic(auto)]
+
+mod cursor;
+pub mod expr;
+mod judge;
+pub mod kind;
+pub mod laws;
+pub mod lex;
+pub mod module;
+pub mod name;
+mod scan;
+mod state;
+pub mod token;
