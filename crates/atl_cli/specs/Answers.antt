@@ -1,6 +1,6 @@
 -- What a call is to answer, where nothing outside fails and memory lasts: by cases on the words, the module, the names of
 -- the pairs, the source and the number of its elements, in this order.
-use Rattle.std.specs.Prelude.{◌≡◌, ◌≢◌, ◌⊎◌, ℕ, ◌≤◌, ◌<◌, List, [], ◌++◌, Option, IfSome, length, Contains}
+use Rattle.std.specs.Prelude.{◌≡◌, ◌≢◌, ◌⊎◌, ℕ, ◌≤◌, ◌<◌, List, [], ◌++◌, Option, IfSome, length, Contains, IsTrue, codes}
 use Rattle.std.specs.Option.{option_map}
 use Rattle.atl_outside.specs.Held.{Held, bytes_at, with_content, SameElsewhere}
 use Rattle.atl_outside.specs.Rose.{Rose}
@@ -16,9 +16,15 @@ use Rattle.atl_cli.specs.declared.status.Size.TheVariants.{File, Objects}
 use Rattle.atl_cli.specs.declared.status.Form.TheVariants as form
 use Rattle.atl_cli.specs.Flat.{flat, text_of}
 use Rattle.atl_cli.specs.OneRule.{IsModule}
+use Rattle.atl_cli.specs.Plain.{is_plain_name}
 use Rattle.atl_cli.specs.Source.{IsSource}
 use Rattle.atl_cli.specs.Status.{line_of}
 use Rattle.atl_cli.specs.Words.{IsRequest}
+
+-- the source's metamodel names a namespace other than XMI's
+pub record HasSpace (m : OneRule) : Type 0 where
+  pub name : IsTrue (is_plain_name m.source_metamodel)
+  pub other : m.source_metamodel ≢ codes "xmi"
 
 -- the path that a pair gives to a name
 abbrev pub HasPath : List Pair → List ℕ → List ℕ → Type 0

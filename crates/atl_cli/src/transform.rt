@@ -1,11 +1,14 @@
 // The command `transform`: reads the module and the source, and writes the target.
-ghost use Rattle.std.specs.Prelude.{◌≡◌, ◌≢◌, ◌⊎◌, ℕ, [], ◌≤◌, List, IfOk, IsErr, OnErr, MatchOption};
-ghost use Rattle.atl_cli.specs.Answers.{ArePaths, HasPath, HasPaths, Ended, IsWritten};
+ghost use Rattle.std.specs.Prelude.{◌≡◌, ◌≢◌, ◌⊎◌, ℕ, [], ◌≤◌, List, IfOk, IfSome, IsErr, OnErr, MatchOption, map, length};
+ghost use Rattle.atl_cli.specs.Answers.{ArePaths, HasPath, HasPaths, HasSpace, Ended, IsWritten};
+ghost use Rattle.atl_cli.specs.Flat.{flat, item};
+ghost use Rattle.atl_cli.specs.Source.{IsSource};
+ghost use Rattle.atl_cli.specs.declared.source.SourceElement.{SourceElement as SomeElement};
 ghost use Rattle.atl_cli.specs.Words.{IsRequest};
 
 use crate::flat::write_flat;
 use crate::one_rule::{OneRule, read_module};
-use crate::source::read_source;
+use crate::source::{Kept, read_source};
 use crate::status::{Form, Size, Status};
 use crate::words::{Pair, read_words};
 use atl_base::text::Text;
@@ -100,4 +103,42 @@ fn write_target<F: Files>(
         Err(FileFault::TooBig) => unreachable!(),
         Err(FileFault::Memory) => Err(AllocError),
     }
+}
+
+// Reads the source and writes the target.
+fn run_rule<F: Files>(
+    alloc: Global,
+    files: &mut F,
+    rule: &OneRule,
+    paths: Paths,
+) -> Result<Status, AllocError>
+    requires names { HasSpace rule.now }
+    requires target { paths.target ≢ [] }
+    ensures ended { (words : List (List ℕ)) → IfSome (F.held files.old) (λ held. HasPaths words held rule.now paths.target paths.source)
+        → IfOk result (λ s. Ended words (F.held files.old) (F.held files.new) (F.faults files.old) (F.faults files.new) s) }
+    ensures memory { OnErr result (F.held files.new ≡ F.held files.old) }
+    ensures counted { F.faults files.old ≤ F.faults files.new }
+{
+    let bytes = match files.read(alloc, &paths.source, FILE_LIMIT) {
+        Ok(bytes) => bytes,
+        Err(fault) => return after_read_fault(alloc, fault, &paths.source),
+    };
+    let Some(kept) = read_kept(alloc, rule, &bytes)? else {
+        return Ok(Status::NotYet(Form::Model));
+    };
+    if kept.count > OBJECT_LIMIT {
+        return Ok(Status::TooLarge(Size::Objects));
+    }
+    let text = write_flat(alloc, rule, kept.values.as_slice())?;
+    write_target(alloc, files, paths.target, &text)
+}
+
+// What the rule keeps of a source.
+fn read_kept(alloc: Global, rule: &OneRule, bytes: &[u8]) -> Result<Option<Kept>, AllocError>
+    requires { HasSpace rule.now }
+    ensures { IfOk result (λ read. MatchOption read
+        ((es : List SomeElement) → IsSource rule.now.source_metamodel bytes.now es → ⊥)
+        (λ k. (es : List SomeElement) × IsSource rule.now.source_metamodel bytes.now es × (map (item rule.now) k.values ≡ flat rule.now es) × (k.count ≡ length es))) }
+{
+    read_source(alloc, bytes, &rule.source_metamodel, &rule.class, &rule.read)
 }
