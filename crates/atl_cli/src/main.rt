@@ -1,6 +1,7 @@
 //! The command line.
 #![tactic(auto)]
 
+mod call;
 mod flat;
 mod one_rule;
 mod source;

@@ -1,16 +1,16 @@
 // The command `transform`: reads the module and the source, and writes the target.
-ghost use Rattle.std.specs.Prelude.{◌≡◌, ◌≢◌, ◌⊎◌, ℕ, [], ◌≤◌, List, IfOk, IfSome, IsErr, OnErr, MatchOption, map, length};
+ghost use Rattle.std.specs.Prelude.{◌≡◌, ◌≢◌, ◌⊎◌, ℕ, [], ◌≤◌, List, IfOk, IfSome, IsErr, OnErr, MatchOption, All, map, length};
 ghost use Rattle.atl_cli.specs.Answers.{ArePaths, HasPath, HasPaths, HasSpace, Ended, IsWritten};
 ghost use Rattle.atl_cli.specs.Flat.{flat, item};
 ghost use Rattle.atl_cli.specs.Source.{IsSource};
 ghost use Rattle.atl_cli.specs.declared.source.SourceElement.{SourceElement as SomeElement};
-ghost use Rattle.atl_cli.specs.Words.{IsRequest};
+ghost use Rattle.atl_cli.specs.Words.{IsPair, IsRequest};
 
 use crate::flat::write_flat;
 use crate::one_rule::{OneRule, read_module};
 use crate::source::{Kept, read_source};
 use crate::status::{Form, Size, Status};
-use crate::words::{Pair, read_words};
+use crate::words::{Pair, Request, read_words};
 use atl_base::text::Text;
 use atl_outside::files::{FileFault, Files};
 use std::alloc::{AllocError, Global};
@@ -141,4 +141,44 @@ fn read_kept(alloc: Global, rule: &OneRule, bytes: &[u8]) -> Result<Option<Kept>
         (λ k. (es : List SomeElement) × IsSource rule.now.source_metamodel bytes.now es × (map (item rule.now) k.values ≡ flat rule.now es) × (k.count ≡ length es))) }
 {
     read_source(alloc, bytes, &rule.source_metamodel, &rule.class, &rule.read)
+}
+
+// Reads the module, and then runs its rule.
+fn run_request<F: Files>(
+    alloc: Global,
+    files: &mut F,
+    request: &Request,
+) -> Result<Status, AllocError>
+    requires { All IsPair request.now.pairs }
+    ensures ended { (words : List (List ℕ)) → IsRequest words request.now
+        → IfOk result (λ s. Ended words (F.held files.old) (F.held files.new) (F.faults files.old) (F.faults files.new) s) }
+    ensures memory { OnErr result (F.held files.new ≡ F.held files.old) }
+    ensures counted { F.faults files.old ≤ F.faults files.new }
+{
+    let bytes = match files.read(alloc, &request.module, FILE_LIMIT) {
+        Ok(bytes) => bytes,
+        Err(fault) => return after_read_fault(alloc, fault, &request.module),
+    };
+    let Some(rule) = read_module(alloc, &bytes)? else {
+        return Ok(Status::NotYet(Form::Module));
+    };
+    let Some(paths) = read_paths(alloc, &rule, request.pairs.as_slice())? else {
+        return Ok(Status::NotYet(Form::Words));
+    };
+    run_rule(alloc, files, &rule, paths)
+}
+
+/// Runs the command of these words over the files, and says how that ends the call. After an `Err` no file is changed.
+pub fn transform<F: Files>(
+    alloc: Global,
+    words: &[Text],
+    files: &mut F,
+) -> Result<Status, AllocError>
+    ensures ended { IfOk result (λ s. Ended words.now (F.held files.old) (F.held files.new) (F.faults files.old) (F.faults files.new) s) }
+    ensures memory { OnErr result (F.held files.new ≡ F.held files.old) }
+{
+    let Some(request) = read_words(alloc, words)? else {
+        return Ok(Status::NotYet(Form::Words));
+    };
+    run_request(alloc, files, &request)
 }
