@@ -1,3 +1,4 @@
+pub mod OneRule
 pub mod Plain
 pub mod Source
 pub mod Words
