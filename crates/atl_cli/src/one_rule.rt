@@ -284,3 +284,6 @@ pub fn read_module(alloc: Global, bytes: &[u8]) -> Result<Option<OneRule>, Alloc
         Err(TextRefusal::Memory) => Err(AllocError),
     }
 }
+
+#[cfg(test)]
+mod tests;
