@@ -4,6 +4,7 @@
 mod call;
 mod flat;
 mod one_rule;
+mod plain;
 mod source;
 mod status;
 mod transform;
