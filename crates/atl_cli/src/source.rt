@@ -2,6 +2,8 @@
 use atl_base::text::Text;
 use sqlite_items::Items;
 
+mod front;
+
 /// An attribute as it is written.
 #[derive(Debug, Drop)]
 pub struct SourceAttribute {
