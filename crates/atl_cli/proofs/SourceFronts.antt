@@ -27,6 +27,12 @@ guarded : {A : Type 0} (b : Bool) (x y : A) → cond b (Some x) None ≡ Some y 
 guarded true x y e = (refl, cc)
 guarded false x y e = cc
 
+pub none_some : {A : Type 0} (x : A) → None ≡ Some x → ⊥
+none_some x e = cc
+
+pub same_some : {A : Type 0} (x y : A) → Some x ≡ Some y → x ≡ y
+same_some x y e = cc
+
 -- ---- literals
 
 pub behind_some : (front bytes rest : List ℕ) → behind front bytes ≡ Some rest → bytes ≡ front ++ rest
@@ -166,3 +172,78 @@ parts_takes bytes x e =
     (λ rest d e4.
         let same : (name.0, take (prefix_len stands_in_value value_on) value_on, rest) ≡ x = cc in
         subst (ArePartsAt bytes) same (parts_whole bytes name_on value_on name rest a b c d)))))
+
+-- ---- an element's front, and the header
+
+abbrev pub front_of : List ℕ → List ℕ → List ℕ
+front_of space class = codes "<" ++ (space ++ (codes ":" ++ class))
+
+front_regrouped : (space class rest : List ℕ) → front_of space class ++ rest ≡ codes "<" ++ (space ++ (codes ":" ++ (class ++ rest)))
+front_regrouped space class rest = simp append_assoc
+
+class_steps : (space bytes space_on colon_on name_on : List ℕ) → behind (codes "<") bytes ≡ Some space_on → behind space space_on ≡ Some colon_on → behind (codes ":") colon_on ≡ Some name_on → class_at space bytes ≡ name_at name_on
+unfolding class_at
+class_steps space bytes space_on colon_on name_on a b c = rw (a, b, c) refl
+
+pub class_again : (space class rest : List ℕ) → is_plain_name class ≡ true → opens continues_name rest ≡ false → class_at space (front_of space class ++ rest) ≡ Some (class, rest)
+class_again space class rest p o =
+    let name_on : List ℕ = class ++ rest in
+    let colon_on : List ℕ = codes ":" ++ name_on in
+    ap (class_at space) (front_regrouped space class rest)
+    ∙ class_steps space (codes "<" ++ (space ++ colon_on)) (space ++ colon_on) colon_on name_on (behind_again (codes "<") (space ++ colon_on)) (behind_again space colon_on) (behind_again (codes ":") name_on)
+    ∙ name_again class rest p o
+
+pub record IsClassAt (space bytes : List ℕ) (x : List ℕ × List ℕ) : Type 0 where
+  pub plain : is_plain_name x.0 ≡ true
+  pub ends : opens continues_name x.1 ≡ false
+  pub whole : bytes ≡ front_of space x.0 ++ x.1
+
+pub class_takes : (space bytes : List ℕ) (x : List ℕ × List ℕ) → class_at space bytes ≡ Some x → IsClassAt space bytes x
+unfolding class_at
+class_takes space bytes x e =
+    option_and_then_some _ (behind (codes "<") bytes) x e
+    (λ space_on a e1. option_and_then_some _ (behind space space_on) x e1
+    (λ colon_on b e2. option_and_then_some _ (behind (codes ":") colon_on) x e2
+    (λ name_on c e3.
+        let n = name_takes name_on x.0 x.1 e3 in
+        record {
+          plain = n.plain;
+          ends = n.ends;
+          whole = behind_some (codes "<") bytes space_on a
+            ∙ ap (λ l. codes "<" ++ l) (behind_some space space_on colon_on b ∙ ap (λ l. space ++ l) (behind_some (codes ":") colon_on name_on c ∙ ap (λ l. codes ":" ++ l) n.whole))
+            ∙ sym (front_regrouped space x.0 x.1);
+        })))
+
+-- the header up to the model's name
+abbrev pub versions : List ℕ
+versions = codes " xmi:version=\"2.0\" xmlns:xmi=\"http://www.omg.org/XMI\" xmlns:xsi=\"http://www.w3.org/2001/XMLSchema-instance\" xmlns:"
+
+header_regrouped : (space rest : List ℕ) → header space ++ rest ≡ versions ++ (space ++ (codes "=\"" ++ (space ++ (codes "\"" ++ rest))))
+header_regrouped space rest = simp append_assoc
+
+header_steps : (space bytes prefix_on quote_on name_on end_on : List ℕ) → behind versions bytes ≡ Some prefix_on → behind space prefix_on ≡ Some quote_on → behind (codes "=\"") quote_on ≡ Some name_on → behind space name_on ≡ Some end_on → behind_header space bytes ≡ behind (codes "\"") end_on
+unfolding behind_header
+header_steps space bytes prefix_on quote_on name_on end_on a b c d = rw (a, b, c, d) refl
+
+pub header_again : (space rest : List ℕ) → behind_header space (header space ++ rest) ≡ Some rest
+header_again space rest =
+    let end_on : List ℕ = codes "\"" ++ rest in
+    let name_on : List ℕ = space ++ end_on in
+    let quote_on : List ℕ = codes "=\"" ++ name_on in
+    ap (behind_header space) (header_regrouped space rest)
+    ∙ header_steps space (versions ++ (space ++ quote_on)) (space ++ quote_on) quote_on name_on end_on (behind_again versions (space ++ quote_on)) (behind_again space quote_on) (behind_again (codes "=\"") name_on) (behind_again space end_on)
+    ∙ behind_again (codes "\"") rest
+
+pub header_takes : (space bytes rest : List ℕ) → behind_header space bytes ≡ Some rest → bytes ≡ header space ++ rest
+unfolding behind_header
+header_takes space bytes rest e =
+    option_and_then_some _ (behind versions bytes) rest e
+    (λ prefix_on a e1. option_and_then_some _ (behind space prefix_on) rest e1
+    (λ quote_on b e2. option_and_then_some _ (behind (codes "=\"") quote_on) rest e2
+    (λ name_on c e3. option_and_then_some _ (behind space name_on) rest e3
+    (λ end_on d e4.
+        behind_some versions bytes prefix_on a
+        ∙ ap (λ l. versions ++ l) (behind_some space prefix_on quote_on b
+            ∙ ap (λ l. space ++ l) (behind_some (codes "=\"") quote_on name_on c
+                ∙ ap (λ l. codes "=\"" ++ l) (behind_some space name_on end_on d ∙ ap (λ l. space ++ l) (behind_some (codes "\"") end_on rest e4))))
+        ∙ sym (header_regrouped space rest)))))

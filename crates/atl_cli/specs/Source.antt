@@ -118,3 +118,19 @@ behind_header space bytes =
 -- the end, or a line feed before it
 abbrev pub IsEnd : List ℕ → Type 0
 IsEnd bytes = (ended : Bool) × (bytes ≡ (if ended then codes "\n" else []))
+
+-- no attribute stands at the front
+abbrev pub NoAttribute : List ℕ → Type 0
+NoAttribute bytes = (a : SourceAttribute) (rest : List ℕ) → IsAttribute a → bytes ≢ attribute_text a ++ rest
+
+-- no attributes and end of a tag of an element of this class stand at the front
+abbrev pub NoElement : List ℕ → List ℕ → Type 0
+NoElement class bytes = (e : SourceElement) (rest : List ℕ) → IsElement e → e.class ≡ class → bytes ≢ attributes_text e.attributes ++ (codes "/>" ++ rest)
+
+-- no element's line stands at the front
+abbrev pub NoLine : List ℕ → List ℕ → Type 0
+NoLine space bytes = (e : SourceElement) (rest : List ℕ) → IsElement e → bytes ≢ line_text space e ++ rest
+
+-- no element stands alone at the front
+abbrev pub NoLone : List ℕ → List ℕ → Type 0
+NoLone space bytes = (e : SourceElement) (rest : List ℕ) → IsElement e → bytes ≢ lone_text space e ++ rest

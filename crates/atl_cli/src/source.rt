@@ -2,6 +2,8 @@
 use atl_base::text::Text;
 use sqlite_items::Items;
 
+mod attributes;
+mod elements;
 mod front;
 
 /// An attribute as it is written.
