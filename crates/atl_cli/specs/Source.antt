@@ -1,11 +1,12 @@
 -- The plainest source: a file of elements without children, each with attributes of text. One element may stand alone;
 -- otherwise they stand in an element xmi:XMI, each on a line of its own.
-use Rattle.std.specs.Prelude.{◌≡◌, ◌≢◌, ◌⊎◌, ℕ, ◌||◌, ◌==◌, Bool, true, false, not, List, [], ◌∷◌, ◌++◌, map, filter, find, take, drop, length, Option, Some, None, if◌then◌else◌, IsTrue, AllPairs, codes}
+use Rattle.std.specs.Prelude.{◌≡◌, ◌≢◌, ◌⊎◌, ℕ, ◌||◌, ◌==◌, Bool, true, false, not, List, [], ◌∷◌, ◌++◌, map, filter, find, take, drop, length, Option, Some, None, if◌then◌else◌, IsTrue, AllPairs, MatchOption, ◌<◌, codes}
 use Rattle.std.specs.List.{flat_map, list_all, prefix_len, AllByRecursion}
-use Rattle.std.specs.Option.{option_map, option_and_then}
+use Rattle.std.specs.Option.{option_map, option_and_then, unwrap_or}
 use Rattle.std.specs.Str.{bytes_eq}
 use Rattle.atl_base.specs.XmlText.{IsXmlText}
 use Rattle.atl_cli.specs.declared.source.SourceAttribute.{SourceAttribute}
+use Rattle.atl_cli.specs.declared.source.Kept.{Kept}
 use Rattle.atl_cli.specs.declared.source.SourceElement.{SourceElement}
 use Rattle.atl_cli.specs.Plain.{begins_name, continues_name, is_plain_name}
 
@@ -134,3 +135,31 @@ NoLine space bytes = (e : SourceElement) (rest : List ℕ) → IsElement e → b
 -- no element stands alone at the front
 abbrev pub NoLone : List ℕ → List ℕ → Type 0
 NoLone space bytes = (e : SourceElement) (rest : List ℕ) → IsElement e → bytes ≢ lone_text space e ++ rest
+
+-- ---- the parts of a source
+
+-- lines of elements, the end tag behind them, and the end
+abbrev pub AreLines : List ℕ → List ℕ → List SourceElement → Type 0
+AreLines space bytes es = (end : List ℕ) × AllByRecursion IsElement es × (0 < length es) × IsEnd end × (bytes ≡ flat_map (line_text space) es ++ (codes "</xmi:XMI>" ++ end))
+
+abbrev pub IsSeveral : List ℕ → List ℕ → List SourceElement → Type 0
+IsSeveral space bytes es = (end : List ℕ) × AllByRecursion IsElement es × IsEnd end × (bytes ≡ several_text space es ++ end)
+
+abbrev pub IsLone : List ℕ → List ℕ → List SourceElement → Type 0
+IsLone space bytes es = (e : SourceElement) × (end : List ℕ) × IsElement e × IsEnd end × (es ≡ e ∷ []) × (bytes ≡ lone_text space e ++ end)
+
+-- a source behind its declaration
+abbrev pub IsBody : List ℕ → List ℕ → List SourceElement → Type 0
+IsBody space bytes es = IsSeveral space bytes es ⊎ IsLone space bytes es
+
+-- nothing is kept where no elements are P; else it is kept of elements that are
+abbrev pub Reads : (List SourceElement → Type 0) → List ℕ → List ℕ → Option Kept → Type 0
+Reads P class read kept = MatchOption kept ((es : List SourceElement) → P es → ⊥)
+    (λ k. (es : List SourceElement) × P es × (k.values ≡ kept_values class read es) × (k.count ≡ length es))
+
+abbrev pub declaration : List ℕ
+declaration = codes "<?xml version=\"1.0\" encoding=\"UTF-8\"?>\n"
+
+-- what follows the declaration, or all where there is none
+abbrev pub body_of : List ℕ → List ℕ
+body_of bytes = unwrap_or (behind declaration bytes) bytes
