@@ -35,7 +35,7 @@ abbrev pub first : List ℕ → ℕ
 first [] = 0
 first (c ∷ cs) = c
 
-no_line_ends : (space rest : List ℕ) → NoLine space (codes "</xmi:XMI>" ++ rest)
+pub no_line_ends : (space rest : List ℕ) → NoLine space (codes "</xmi:XMI>" ++ rest)
 no_line_ends space rest e more h same = let clash : ◌≡◌ {A = ℕ} 60 32 = ap first same in absurd (omega arith)
 
 -- the lines that were read are the lines that are there
@@ -73,7 +73,7 @@ opens_whole space bytes inner rest es o e =
 inner_has : (space bytes inner : List ℕ) → Opens space bytes inner → (es : List SourceElement) (s : IsSeveral space bytes es) → inner ≡ closing space es ++ s.0
 inner_has space bytes inner o es s = several_has space bytes o.header_on inner o.opened o.headed es s
 
-ends_not_lines : (a b : List ℕ) → codes "/>" ++ a ≡ codes ">\n" ++ b → ⊥
+pub ends_not_lines : (a b : List ℕ) → codes "/>" ++ a ≡ codes ">\n" ++ b → ⊥
 ends_not_lines a b e = let clash : ◌≡◌ {A = ℕ} 47 62 = ap first e in absurd (omega arith)
 
 -- `/>` is there: the source has no elements, or is none

@@ -33,7 +33,7 @@ one_element e f r s h k c same =
     let o = one_list e.attributes f.attributes (codes "/>" ++ r) (codes "/>" ++ s) h.attributes k.attributes (no_attribute_ends r) (no_attribute_ends s) same in
     (made_same e f c o.0, append_cancel_left (codes "/>") r s o.1)
 
-same_pair : (a b c d : List ℕ) → ◌≡◌ {A = Option (List ℕ × List ℕ)} (Some (a, b)) (Some (c, d)) → (a ≡ c) × (b ≡ d)
+pub same_pair : (a b c d : List ℕ) → ◌≡◌ {A = Option (List ℕ × List ℕ)} (Some (a, b)) (Some (c, d)) → (a ≡ c) × (b ≡ d)
 same_pair a b c d e =
     let x : List ℕ × List ℕ = (a, b) in
     let y : List ℕ × List ℕ = (c, d) in

@@ -178,7 +178,7 @@ parts_takes bytes x e =
 abbrev pub front_of : List ℕ → List ℕ → List ℕ
 front_of space class = codes "<" ++ (space ++ (codes ":" ++ class))
 
-front_regrouped : (space class rest : List ℕ) → front_of space class ++ rest ≡ codes "<" ++ (space ++ (codes ":" ++ (class ++ rest)))
+pub front_regrouped : (space class rest : List ℕ) → front_of space class ++ rest ≡ codes "<" ++ (space ++ (codes ":" ++ (class ++ rest)))
 front_regrouped space class rest = simp append_assoc
 
 class_steps : (space bytes space_on colon_on name_on : List ℕ) → behind (codes "<") bytes ≡ Some space_on → behind space space_on ≡ Some colon_on → behind (codes ":") colon_on ≡ Some name_on → class_at space bytes ≡ name_at name_on
