@@ -1,8 +1,6 @@
 -- What the one rule makes of a flat source: of each element of its class, in order, an element of the target, with the
 -- attribute where the source element has it; and the document that holds these elements.
-use Rattle.std.specs.Prelude.{ℕ, List, [], ◌∷◌, Option, None, Some, map, filter, find, codes}
-use Rattle.std.specs.Option.{option_map}
-use Rattle.std.specs.Str.{bytes_eq}
+use Rattle.std.specs.Prelude.{ℕ, List, [], ◌∷◌, Option, None, Some, map, codes}
 use Rattle.doc_text.specs.declared.tree.Attribute.{Attribute}
 use Rattle.doc_text.specs.declared.tree.Child.{Child}
 use Rattle.doc_text.specs.declared.tree.Child.TheVariants.{Sub}
@@ -12,16 +10,8 @@ use Rattle.doc_text.specs.declared.tree.Prefix.{Prefix}
 use Rattle.doc_text.specs.Names.{xmi_space, xsi_space}
 use Rattle.doc_text.specs.Written.{written}
 use Rattle.atl_cli.specs.declared.one_rule.OneRule.{OneRule}
-use Rattle.atl_cli.specs.declared.source.SourceAttribute.{SourceAttribute}
 use Rattle.atl_cli.specs.declared.source.SourceElement.{SourceElement}
-
--- the value of an attribute
-abbrev pub value_of : List ℕ → List SourceAttribute → Option (List ℕ)
-value_of name attributes = option_map (λ a. a.value) (find (λ a. bytes_eq a.name name) attributes)
-
--- of the elements of a class, in order, the value of an attribute
-abbrev pub kept_values : List ℕ → List ℕ → List SourceElement → List (Option (List ℕ))
-kept_values class name es = map (λ e. value_of name e.attributes) (filter (λ e. bytes_eq e.class class) es)
+use Rattle.atl_cli.specs.Source.{kept_values}
 
 -- an element that was read from no place
 abbrev pub element : List ℕ → List ℕ → List Prefix → List Attribute → List Child → Element
