@@ -1,5 +1,5 @@
 -- How a run ends, from what its steps have shown.
-use Rattle.std.proofs.Common.{◌≡◌, ◌≢◌, ◌≤◌, ◌<◌, ◌⊎◌, inl, inr, ℕ, List, [], ◌++◌, length, Option, Some, None, Result, Ok, Err, IfOk, IfSome, MatchOption, ap, sym, subst, ◌∙◌, refl, arith}
+use Rattle.std.proofs.Common.{◌≡◌, ◌≢◌, ◌≤◌, ◌<◌, ◌⊎◌, inl, inr, ℕ, List, [], ◌++◌, length, Option, Some, None, Result, Ok, Err, true, false, IfOk, IfSome, MatchOption, ap, sym, subst, ◌∙◌, refl, arith}
 use Rattle.std.specs.Prelude.{IsErr, map}
 use Rattle.std.specs.Option.{option_map}
 use Rattle.std.specs.declared.alloc.AllocError.{AllocError}
@@ -14,8 +14,14 @@ use Rattle.atl_cli.specs.declared.status.Status.TheVariants as status
 use Rattle.atl_cli.specs.declared.status.Size.TheVariants as size
 use Rattle.atl_cli.specs.declared.status.Form.TheVariants as form
 use Rattle.atl_cli.specs.Flat.{flat, item, text_of}
-use Rattle.atl_cli.specs.Answers.{HasPaths, HasElements, Judges, OtherSource, ManyObjects, Copies, Outcome, Ends, Writes, Ended, IsWritten, file_limit, object_limit}
+use Rattle.atl_cli.specs.Answers.{HasSpace, ArePaths, HasModule, HasPaths, HasElements, Judges, OtherModule, OtherNames, OtherSource, ManyObjects, Copies, Outcome, Ends, Writes, Ended, IsWritten, file_limit, object_limit}
+use Rattle.atl_cli.specs.OneRule.{IsModule, is_name, is_reserved}
+use Rattle.atl_cli.specs.Plain.{is_plain_name}
 use Rattle.atl_cli.specs.Source.{IsSource}
+use Rattle.atl_cli.specs.Words.{IsRequest}
+use Rattle.atl_cli.specs.declared.words.Pair.{Pair}
+use Rattle.atl_cli.specs.declared.words.Request.{Request}
+use Rattle.std.proofs.lemmas.Bool.{and_parts}
 
 pub IfSome-map : {A : Type 0} {P Q : A → Type 0} (o : Option A) → ((x : A) → P x → Q x) → IfSome o P → IfSome o Q
 IfSome-map (Some x) f p = f x p
@@ -94,3 +100,43 @@ pub copied : (words : List (List ℕ)) (before : Option Held) (m : OneRule) (tar
 copied words before m target source bytes values count text paths is short kept most t =
     let few : length kept.0 ≤ object_limit = omega (arith, most, kept.3) in
     IfSome-both before (λ held p e. subst (λ x. Judges words held (Writes target x)) (sym (t ∙ ap (text_of m) kept.2)) (Copies m target kept.0 (held_elements words held m target source bytes kept.0 p e short kept.1) few)) paths is
+
+pub IfSome-always : {A : Type 0} {P : A → Type 0} (o : Option A) → ((x : A) → P x) → IfSome o P
+IfSome-always (Some x) f = f x
+IfSome-always None f = tt
+
+-- the source's metamodel of a module of the form names a namespace other than XMI's
+pub space_of : (bytes : List ℕ) (m : OneRule) → IsModule bytes m → HasSpace m
+space_of bytes m is =
+    let names = is.rule.names.names in
+    let p = and_parts (is_name m.module) _ names in
+    let q = and_parts (is_name m.target) _ p.1 in
+    let r = and_parts (is_name m.target_metamodel) _ q.1 in
+    let s = and_parts (is_name m.source) _ r.1 in
+    let t = and_parts (is_name m.source_metamodel) _ s.1 in
+    record {
+        name = (and_parts (is_plain_name m.source_metamodel) _ t.0).0;
+        other = λ e. let both : true ≡ false = sym (ap is_reserved e) ∙ is.rule.names.source_space in cc;
+    }
+
+abbrev pub NoModule : List ℕ → Type 0
+NoModule bytes = (m : OneRule) → IsModule bytes m → ⊥
+
+abbrev pub NoPaths : OneRule → List Pair → Type 0
+NoPaths m pairs = (target source : List ℕ) → ArePaths m pairs target source → ⊥
+
+pub other_module : (words : List (List ℕ)) (before : Option Held) (r : Request) (bytes : List ℕ) → IsRequest words r → IfSome before (λ held. bytes ≡ bytes_at held r.module) → length bytes ≤ file_limit → NoModule bytes →
+    IfSome before (λ held. Judges words held (Ends (status.NotYet form.Module)))
+other_module words before r bytes asked is short none =
+    IfSome-map before (λ held e. OtherModule r asked (subst (λ b. length b ≤ file_limit) e short) (subst NoModule e none)) is
+
+pub has_module : (words : List (List ℕ)) (before : Option Held) (r : Request) (m : OneRule) (bytes : List ℕ) → IsRequest words r → IfSome before (λ held. bytes ≡ bytes_at held r.module) → length bytes ≤ file_limit → IsModule bytes m →
+    IfSome before (λ held. HasModule words held r m)
+has_module words before r m bytes asked is short rule =
+    IfSome-map before (λ held e. record { request = asked; short = subst (λ b. length b ≤ file_limit) e short; is = subst (λ b. IsModule b m) e rule }) is
+
+pub other_names : (words : List (List ℕ)) (before : Option Held) (r : Request) (m : OneRule) → IfSome before (λ held. HasModule words held r m) → NoPaths m r.pairs → IfSome before (λ held. Judges words held (Ends (status.NotYet form.Words)))
+other_names words before r m has none = IfSome-map before (λ held h. OtherNames r m h none) has
+
+pub has_paths : (words : List (List ℕ)) (before : Option Held) (r : Request) (m : OneRule) (target source : List ℕ) → IfSome before (λ held. HasModule words held r m) → ArePaths m r.pairs target source → IfSome before (λ held. HasPaths words held m target source)
+has_paths words before r m target source has paths = IfSome-map before (λ held h. record { of = r; opened = h; paths = paths }) has
