@@ -1,6 +1,6 @@
 -- The plainest source: a file of elements without children, each with attributes of text. One element may stand alone;
 -- otherwise they stand in an element xmi:XMI, each on a line of its own.
-use Rattle.std.specs.Prelude.{◌≡◌, ◌≢◌, ◌⊎◌, ℕ, ◌||◌, ◌==◌, Bool, true, false, not, List, [], ◌∷◌, ◌++◌, map, filter, find, take, drop, length, Option, Some, None, if◌then◌else◌, IsTrue, AllPairs, MatchOption, ◌<◌, codes}
+use Rattle.std.specs.Prelude.{◌≡◌, ◌≢◌, ◌⊎◌, ℕ, ◌||◌, ◌==◌, Bool, false, not, List, [], ◌∷◌, ◌++◌, map, filter, find, take, drop, length, Option, Some, None, if◌then◌else◌, IsTrue, AllPairs, MatchOption, ◌<◌, codes}
 use Rattle.std.specs.List.{flat_map, list_all, prefix_len, AllByRecursion}
 use Rattle.std.specs.Option.{option_map, option_and_then, unwrap_or}
 use Rattle.std.specs.Str.{bytes_eq}
@@ -89,32 +89,32 @@ name_at bytes =
 unfoldable pub parts_at : List ℕ → Option (List ℕ × List ℕ × List ℕ)
 parts_at bytes =
     option_and_then
-        (λ name_on. option_and_then
-            (λ name. option_and_then
-                (λ value_on.
-                    let len = prefix_len stands_in_value value_on in
-                    option_and_then (λ rest. Some (name.0, take len value_on, rest)) (behind (codes "\"") (drop len value_on)))
-                (behind (codes "=\"") name.1))
-            (name_at name_on))
-        (behind (codes " ") bytes)
+    (λ name_on. option_and_then
+    (λ name. option_and_then
+    (λ value_on.
+    let len = prefix_len stands_in_value value_on in
+    option_and_then (λ rest. Some (name.0, take len value_on, rest)) (behind (codes "\"") (drop len value_on)))
+    (behind (codes "=\"") name.1))
+    (name_at name_on))
+    (behind (codes " ") bytes)
 
 -- the class of an element, and what follows it
 unfoldable pub class_at : List ℕ → List ℕ → Option (List ℕ × List ℕ)
 class_at space bytes =
     option_and_then
-        (λ space_on. option_and_then (λ colon_on. option_and_then name_at (behind (codes ":") colon_on)) (behind space space_on))
-        (behind (codes "<") bytes)
+    (λ space_on. option_and_then (λ colon_on. option_and_then name_at (behind (codes ":") colon_on)) (behind space space_on))
+    (behind (codes "<") bytes)
 
 -- what follows the header
 unfoldable pub behind_header : List ℕ → List ℕ → Option (List ℕ)
 behind_header space bytes =
     option_and_then
-        (λ prefix_on. option_and_then
-            (λ quote_on. option_and_then
-                (λ name_on. option_and_then (λ end_on. behind (codes "\"") end_on) (behind space name_on))
-                (behind (codes "=\"") quote_on))
-            (behind space prefix_on))
-        (behind (codes " xmi:version=\"2.0\" xmlns:xmi=\"http://www.omg.org/XMI\" xmlns:xsi=\"http://www.w3.org/2001/XMLSchema-instance\" xmlns:") bytes)
+    (λ prefix_on. option_and_then
+    (λ quote_on. option_and_then
+    (λ name_on. option_and_then (λ end_on. behind (codes "\"") end_on) (behind space name_on))
+    (behind (codes "=\"") quote_on))
+    (behind space prefix_on))
+    (behind (codes " xmi:version=\"2.0\" xmlns:xmi=\"http://www.omg.org/XMI\" xmlns:xsi=\"http://www.w3.org/2001/XMLSchema-instance\" xmlns:") bytes)
 
 -- the end, or a line feed before it
 abbrev pub IsEnd : List ℕ → Type 0

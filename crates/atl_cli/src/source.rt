@@ -105,5 +105,7 @@ pub fn read_source(
 /// A source has one list of elements.
 pub fn one_source()
     ensures { (space bytes : List ℕ) (es fs : List SomeElement) → IsTrue (is_plain_name space) → space ≢ codes "xmi" → IsSource space bytes es → IsSource space bytes fs → es ≡ fs }
-{
-}
+{}
+
+#[cfg(test)]
+mod tests;
