@@ -1,10 +1,9 @@
 -- The attributes at the front of bytes: which they are is fixed by the bytes.
-use Rattle.std.proofs.Common.{◌≡◌, ◌≢◌, ◌⊎◌, ℕ, ◌+◌, ◌<◌, ◌≤◌, ◌&&◌, ◌||◌, Bool, true, false, cond, not, Option, Some, None, List, [], ◌∷◌, ◌++◌, length, take, drop, get_or, refl, sym, ap, subst, ◌∙◌, inl, inr, suc, Bor, arith, append_assoc}
-use Rattle.std.specs.Prelude.{MatchOption, codes, map, AllPairs, nat_lt}
-use Rattle.std.specs.List.{list_all, list_any, flat_map, AllByRecursion}
+use Rattle.std.proofs.Common.{◌≡◌, ◌≢◌, ℕ, ◌+◌, ◌<◌, ◌||◌, Bool, true, false, cond, Some, None, List, [], ◌∷◌, ◌++◌, length, take, get_or, refl, sym, ap, subst, ◌∙◌, suc, arith, append_assoc}
+use Rattle.std.specs.Prelude.{codes, map, AllPairs}
+use Rattle.std.specs.List.{list_all, list_any, AllByRecursion}
 use Rattle.std.specs.Str.{bytes_eq}
-use Rattle.std.specs.Int.{is_in_range}
-use Rattle.std.proofs.lemmas.Bool.{and_parts, and_from, cases_Bool}
+use Rattle.std.proofs.lemmas.Bool.{and_parts, and_from}
 use Rattle.std.proofs.lemmas.Bool.Decides.{nat_tests}
 use Rattle.std.proofs.lemmas.List.{length-append, length-take, length-map, get_or-map, get_or-take, get_or_default, take_more, take_all, map-append, append-nil}
 use Rattle.std.proofs.lemmas.List.Folds.{Any-from_list_any, list_any-from_Any, list_any-append}
@@ -14,9 +13,9 @@ use Rattle.std.proofs.lemmas.Slice.Eq.{bytes_eq-Decides}
 use Rattle.atl_base.specs.XmlText.{IsXmlText, IsFirstOffence, is_ascii_text}
 use Rattle.atl_base.proofs.XmlTexts.{IsXmlText-ascii}
 use Rattle.atl_cli.specs.declared.source.SourceAttribute.{SourceAttribute}
-use Rattle.atl_cli.specs.Plain.{begins_name, continues_name, is_plain_name}
-use Rattle.atl_cli.specs.Source.{parts_at, stands_in_value, IsAttribute, NoAttribute, attribute_text, attributes_text}
-use Rattle.atl_cli.proofs.SourceFronts.{parts_again, parts_takes, ArePartsAt, continues_all, none_some, same_some}
+use Rattle.atl_cli.specs.Plain.{continues_name, is_plain_name}
+use Rattle.atl_cli.specs.Source.{parts_at, IsAttribute, NoAttribute, attribute_text, attributes_text}
+use Rattle.atl_cli.proofs.SourceFronts.{parts_again, continues_all, none_some, same_some}
 
 -- ---- texts
 
@@ -97,7 +96,7 @@ doubled xs i d h e pairs =
     let there : i < length (names xs) = omega (arith, length-map xs (λ a. a.name)) in
     let found : get_or (names (take i xs)) any.0 d.name ≡ any.1 = get_or_default (names (take i xs)) any.0 d.name any.1 any.2 ∙ any.3 in
     let first : get_or (names xs) any.0 d.name ≡ any.1 =
-        named xs any.0 d (omega arith) ∙ ap (λ a. a.name) (sym (get_or-take i xs any.0 d below)) ∙ sym (named (take i xs) any.0 d within) ∙ found in
+    named xs any.0 d (omega arith) ∙ ap (λ a. a.name) (sym (get_or-take i xs any.0 d below)) ∙ sym (named (take i xs) any.0 d within) ∙ found in
     pairs any.0 i d.name below there (first ∙ (bytes_eq-Decides any.1 (get_or xs i d).name).0 any.4 ∙ sym (named xs i d h))
 
 names_more : (xs : List SourceAttribute) (i : ℕ) (d : SourceAttribute) → i < length xs → names (take (i + 1) xs) ≡ names (take i xs) ++ (get_or xs i d).name ∷ []
@@ -107,12 +106,12 @@ pub differ_more : (xs : List SourceAttribute) (i : ℕ) (d : SourceAttribute) �
 differ_more xs i d h e pairs =
     let P : List (List ℕ) → Type 0 = AllPairs (λ x y. x ≢ y) in
     subst P (sym (names_more xs i d h))
-        (all_pairs_push (λ x y. x ≢ y) (names (take i xs)) (get_or xs i d).name pairs
-            (λ k c lt same.
-                let t : list_any (λ n. bytes_eq n (get_or xs i d).name) (names (take i xs)) ≡ true =
-                    list_any-from_Any (λ n. bytes_eq n (get_or xs i d).name) (names (take i xs)) (k, get_or (names (take i xs)) k c, lt, get_or_default (names (take i xs)) k _ c lt, (bytes_eq-Decides _ _).1 same) in
-                let both : true ≡ false = sym t ∙ e in
-                cc))
+    (all_pairs_push (λ x y. x ≢ y) (names (take i xs)) (get_or xs i d).name pairs
+    (λ k c lt same.
+    let t : list_any (λ n. bytes_eq n (get_or xs i d).name) (names (take i xs)) ≡ true =
+    list_any-from_Any (λ n. bytes_eq n (get_or xs i d).name) (names (take i xs)) (k, get_or (names (take i xs)) k c, lt, get_or_default (names (take i xs)) k _ c lt, (bytes_eq-Decides _ _).1 same) in
+    let both : true ≡ false = sym t ∙ e in
+    cc))
 
 or_cond : (b c : Bool) → cond b true c ≡ (c || (b || false))
 or_cond true true = refl

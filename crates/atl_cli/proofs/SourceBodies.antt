@@ -1,16 +1,16 @@
 -- Lines, their end tag, and the element around them: which elements they are is fixed by the bytes.
-use Rattle.std.proofs.Common.{◌≡◌, ◌≢◌, ◌⊎◌, ℕ, ◌+◌, ◌<◌, ◌≤◌, Bool, true, false, Option, Some, None, List, [], ◌∷◌, ◌++◌, length, refl, sym, ap, subst, ◌∙◌, inl, inr, Bor, arith, append_assoc}
+use Rattle.std.proofs.Common.{◌≡◌, ℕ, ◌<◌, Option, Some, None, List, [], ◌∷◌, ◌++◌, length, sym, ap, subst, ◌∙◌, arith, append_assoc}
 use Rattle.std.specs.Prelude.{codes, MatchOption, map, filter}
 use Rattle.std.specs.List.{flat_map, AllByRecursion}
 use Rattle.std.specs.Str.{bytes_eq}
-use Rattle.std.proofs.lemmas.List.{length-append, append-nil, map-append, append_cancel_left}
+use Rattle.std.proofs.lemmas.List.{length-append, append-nil, map-append}
 use Rattle.std.proofs.lemmas.List.Elements.{filter-append}
 use Rattle.std.proofs.lemmas.Grind.{flat_map-append}
 use Rattle.atl_cli.specs.declared.source.Kept.{Kept}
 use Rattle.atl_cli.specs.declared.source.SourceElement.{SourceElement}
-use Rattle.atl_cli.specs.Source.{behind, behind_header, header, IsElement, IsEnd, NoLine, AreLines, IsSeveral, IsLone, IsBody, Reads, kept_values, value_of, line_text, lone_text, several_text}
-use Rattle.atl_cli.proofs.SourceFronts.{behind_again, behind_some, header_again, header_takes, none_some, same_some}
-use Rattle.atl_cli.proofs.SourceElements.{not_behind, only_behind, not_header, only_header, one_list_of_lines}
+use Rattle.atl_cli.specs.Source.{behind, behind_header, header, IsElement, IsEnd, NoLine, AreLines, IsSeveral, Reads, kept_values, value_of, line_text, several_text}
+use Rattle.atl_cli.proofs.SourceFronts.{behind_some, header_takes}
+use Rattle.atl_cli.proofs.SourceElements.{not_behind, only_behind, only_header, one_list_of_lines}
 
 -- ---- one more line
 
@@ -22,7 +22,7 @@ kept_more class read es e =
 pub lines_more : (space : List ℕ) (es : List SourceElement) (e : SourceElement) (bytes rest more : List ℕ) → bytes ≡ flat_map (line_text space) es ++ rest → rest ≡ line_text space e ++ more → bytes ≡ flat_map (line_text space) (es ++ e ∷ []) ++ more
 lines_more space es e bytes rest more a b =
     let pushed : flat_map (line_text space) (es ++ e ∷ []) ≡ flat_map (line_text space) es ++ line_text space e =
-        flat_map-append (line_text space) es (e ∷ []) ∙ ap (λ l. flat_map (line_text space) es ++ l) (append-nil (line_text space e)) in
+    flat_map-append (line_text space) es (e ∷ []) ∙ ap (λ l. flat_map (line_text space) es ++ l) (append-nil (line_text space e)) in
     a ∙ ap (λ l. flat_map (line_text space) es ++ l) b ∙ sym (append_assoc (flat_map (line_text space) es) (line_text space e) more) ∙ ap (λ l. l ++ more) (sym pushed)
 
 pub line_shortens : (space : List ℕ) (e : SourceElement) (bytes rest : List ℕ) → bytes ≡ line_text space e ++ rest → length rest < length bytes
@@ -56,7 +56,7 @@ several_is space (e ∷ es) end = simp append_assoc
 pub several_has : (space bytes header_on inner : List ℕ) → behind (codes "<xmi:XMI") bytes ≡ Some header_on → behind_header space header_on ≡ Some inner → (es : List SourceElement) (s : IsSeveral space bytes es) → inner ≡ closing space es ++ s.0
 several_has space bytes header_on inner a b es s =
     only_header space header_on inner (closing space es ++ s.0) b
-        (only_behind (codes "<xmi:XMI") bytes header_on (header space ++ (closing space es ++ s.0)) a (s.3 ∙ several_is space es s.0))
+    (only_behind (codes "<xmi:XMI") bytes header_on (header space ++ (closing space es ++ s.0)) a (s.3 ∙ several_is space es s.0))
 
 -- ---- what the readers answer
 
@@ -95,17 +95,24 @@ neither space bytes inner o a b (e ∷ es) s = not_behind (codes ">\n") inner ((
 
 lines_of : (space bytes inner lines_on : List ℕ) → Opens space bytes inner → behind (codes "/>") inner ≡ None → behind (codes ">\n") inner ≡ Some lines_on → (es : List SourceElement) → IsSeveral space bytes es → AreLines space lines_on es
 lines_of space bytes inner lines_on o a b [] s = absurd (not_behind (codes "/>") inner s.0 a (inner_has space bytes inner o [] s))
-lines_of space bytes inner lines_on o a b (e ∷ es) s =
-    (s.0, s.1, omega arith, s.2,
-     only_behind (codes ">\n") inner lines_on ((flat_map (line_text space) (e ∷ es) ++ codes "</xmi:XMI>") ++ s.0) b (inner_has space bytes inner o (e ∷ es) s)
-     ∙ append_assoc (flat_map (line_text space) (e ∷ es)) (codes "</xmi:XMI>") s.0)
+lines_of space bytes inner lines_on o a b (e ∷ es) s = (
+  s.0,
+  s.1,
+  omega arith,
+  s.2,
+  only_behind (codes ">\n") inner lines_on ((flat_map (line_text space) (e ∷ es) ++ codes "</xmi:XMI>") ++ s.0) b (inner_has space bytes inner o (e ∷ es) s)
+      ∙ append_assoc (flat_map (line_text space) (e ∷ es)) (codes "</xmi:XMI>") s.0,
+)
 
 several_of : (space bytes inner lines_on : List ℕ) → Opens space bytes inner → behind (codes ">\n") inner ≡ Some lines_on → (es : List SourceElement) → AreLines space lines_on es → IsSeveral space bytes es
 several_of space bytes inner lines_on o b [] l = absurd (omega (arith, l.2))
-several_of space bytes inner lines_on o b (e ∷ es) l =
-    (l.0, l.1, l.3,
-     opens_whole space bytes inner l.0 (e ∷ es) o
-        (behind_some (codes ">\n") inner lines_on b ∙ ap (λ t. codes ">\n" ++ t) (l.4 ∙ sym (append_assoc (flat_map (line_text space) (e ∷ es)) (codes "</xmi:XMI>") l.0))))
+several_of space bytes inner lines_on o b (e ∷ es) l = (
+  l.0,
+  l.1,
+  l.3,
+  opens_whole space bytes inner l.0 (e ∷ es) o
+      (behind_some (codes ">\n") inner lines_on b ∙ ap (λ t. codes ">\n" ++ t) (l.4 ∙ sym (append_assoc (flat_map (line_text space) (e ∷ es)) (codes "</xmi:XMI>") l.0))),
+)
 
 -- what reads one reads the other
 pub reads_map : (P Q : List SourceElement → Type 0) (class read : List ℕ) → ((es : List SourceElement) → P es → Q es) → ((es : List SourceElement) → Q es → P es) → (k : Option Kept) → Reads P class read k → Reads Q class read k

@@ -1,13 +1,13 @@
 -- An element at the front of bytes: which it is, and what follows it, is fixed by the bytes.
-use Rattle.std.proofs.Common.{◌≡◌, ◌≢◌, ◌⊎◌, ℕ, ◌+◌, ◌<◌, ◌≤◌, Bool, true, false, Option, Some, None, List, [], ◌∷◌, ◌++◌, length, refl, sym, ap, subst, ◌∙◌, inl, inr, Bor, arith, append_assoc}
+use Rattle.std.proofs.Common.{◌≡◌, ◌≢◌, ℕ, false, Option, Some, None, List, [], ◌∷◌, ◌++◌, refl, sym, ap, ◌∙◌, Bor, append_assoc}
 use Rattle.std.specs.Prelude.{codes, MatchOption}
 use Rattle.std.specs.List.{flat_map, AllByRecursion}
-use Rattle.std.proofs.lemmas.List.{length-append, append-nil, append_cancel_left}
+use Rattle.std.proofs.lemmas.List.{append_cancel_left}
 use Rattle.atl_cli.specs.declared.source.SourceAttribute.{SourceAttribute}
 use Rattle.atl_cli.specs.declared.source.SourceElement.{SourceElement}
 use Rattle.atl_cli.specs.Plain.{continues_name}
-use Rattle.atl_cli.specs.Source.{behind, class_at, behind_header, header, IsElement, IsAttribute, NoAttribute, NoElement, NoLine, NoLone, attribute_text, attributes_text, line_text, lone_text}
-use Rattle.atl_cli.proofs.SourceFronts.{behind_again, behind_some, class_again, class_takes, IsClassAt, header_again, header_takes, front_of, opens, none_some, same_some}
+use Rattle.atl_cli.specs.Source.{behind, class_at, behind_header, header, IsElement, IsAttribute, NoAttribute, NoElement, NoLine, NoLone, attributes_text, line_text, lone_text}
+use Rattle.atl_cli.proofs.SourceFronts.{behind_again, behind_some, class_again, class_takes, header_again, header_takes, front_of, opens, none_some, same_some}
 use Rattle.atl_cli.proofs.SourceAttributes.{one_list}
 
 -- ---- the rest of a tag
@@ -76,7 +76,7 @@ line_has space bytes class_on b e rest h same =
 pub one_line : (space : List ℕ) (e f : SourceElement) (r s : List ℕ) → IsElement e → IsElement f → line_text space e ++ r ≡ line_text space f ++ s → (e ≡ f) × (r ≡ s)
 one_line space e f r s h k same =
     let a = same_pair e.class (tail e (codes "\n" ++ r)) f.class (tail f (codes "\n" ++ s))
-        (sym (class_of space e (codes "\n" ++ r) h) ∙ ap (class_at space) (append_cancel_left (codes "  ") _ _ (sym (line_regrouped space e r) ∙ same ∙ line_regrouped space f s)) ∙ class_of space f (codes "\n" ++ s) k) in
+    (sym (class_of space e (codes "\n" ++ r) h) ∙ ap (class_at space) (append_cancel_left (codes "  ") _ _ (sym (line_regrouped space e r) ∙ same ∙ line_regrouped space f s)) ∙ class_of space f (codes "\n" ++ s) k) in
     let o = one_element e f (codes "\n" ++ r) (codes "\n" ++ s) h k a.0 a.1 in
     (o.0, append_cancel_left (codes "\n") r s o.1)
 
@@ -87,7 +87,7 @@ one_list_of_lines space [] (y ∷ ys) r s h k nr ns e = absurd (nr y (flat_map (
 one_list_of_lines space (x ∷ xs) [] r s h k nr ns e = absurd (ns x (flat_map (line_text space) xs ++ r) h.0 (sym e ∙ append_assoc (line_text space x) (flat_map (line_text space) xs) r))
 one_list_of_lines space (x ∷ xs) (y ∷ ys) r s h k nr ns e =
     let o = one_line space x y (flat_map (line_text space) xs ++ r) (flat_map (line_text space) ys ++ s) h.0 k.0
-        (sym (append_assoc (line_text space x) (flat_map (line_text space) xs) r) ∙ e ∙ append_assoc (line_text space y) (flat_map (line_text space) ys) s) in
+    (sym (append_assoc (line_text space x) (flat_map (line_text space) xs) r) ∙ e ∙ append_assoc (line_text space y) (flat_map (line_text space) ys) s) in
     let more = one_list_of_lines space xs ys r s h.1 k.1 nr ns o.1 in
     (ap (λ z. z ∷ xs) o.0 ∙ ap (λ l. y ∷ l) more.0, more.1)
 
@@ -113,7 +113,7 @@ not_header space bytes rest e same =
 pub one_lone : (space : List ℕ) (e f : SourceElement) (r s : List ℕ) → IsElement e → IsElement f → lone_text space e ++ r ≡ lone_text space f ++ s → (e ≡ f) × (r ≡ s)
 one_lone space e f r s h k same =
     let a = same_pair e.class (header space ++ tail e r) f.class (header space ++ tail f s)
-        (sym (lone_has space (lone_text space f ++ s) e r h (sym same)) ∙ lone_has space (lone_text space f ++ s) f s k refl) in
+    (sym (lone_has space (lone_text space f ++ s) e r h (sym same)) ∙ lone_has space (lone_text space f ++ s) f s k refl) in
     one_element e f r s h k a.0 (append_cancel_left (header space) _ _ a.1)
 
 -- ---- what the readers answer

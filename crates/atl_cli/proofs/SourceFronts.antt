@@ -1,8 +1,8 @@
 -- What is read at the front of bytes stands there, and what stands there is read, whatever follows it.
-use Rattle.std.proofs.Common.{◌≡◌, ◌≢◌, ◌⊎◌, ℕ, ◌+◌, ◌<◌, ◌≤◌, ◌&&◌, Bool, true, false, cond, Option, Some, None, List, [], ◌∷◌, ◌++◌, length, take, drop, refl, sym, ap, subst, ◌∙◌, inl, inr, suc, Bor, arith, append_assoc}
+use Rattle.std.proofs.Common.{◌≡◌, ℕ, ◌+◌, Bool, true, false, cond, Option, Some, None, List, [], ◌∷◌, ◌++◌, length, take, drop, refl, sym, ap, subst, ◌∙◌, inl, inr, suc, Bor, arith, append_assoc}
 use Rattle.std.specs.Prelude.{MatchOption, codes}
 use Rattle.std.specs.List.{prefix_len, list_all}
-use Rattle.std.specs.Option.{option_map, option_and_then}
+use Rattle.std.specs.Option.{option_map}
 use Rattle.std.specs.Str.{bytes_eq}
 use Rattle.std.proofs.lemmas.Bool.{and_parts, and_from, cases_Bool}
 use Rattle.std.proofs.lemmas.List.{take-append-drop}
@@ -139,7 +139,7 @@ parts_again name value rest p v =
     let d : drop (prefix_len stands_in_value value_on) value_on ≡ codes "\"" ++ rest = ap (λ n. drop n value_on) e ∙ drop-append_seam value (codes "\"" ++ rest) in
     ap parts_at (regrouped name value rest)
     ∙ parts_steps (codes " " ++ name_on) name_on value_on (name, codes "=\"" ++ value_on) rest (behind_again (codes " ") name_on) (name_again name (codes "=\"" ++ value_on) p refl) (behind_again (codes "=\"") value_on)
-        (ap (behind (codes "\"")) d ∙ behind_again (codes "\"") rest)
+    (ap (behind (codes "\"")) d ∙ behind_again (codes "\"") rest)
     ∙ ap (λ l. Some (name, l, rest)) (ap (λ n. take n value_on) e ∙ take-append_seam value (codes "\"" ++ rest))
 
 pub record ArePartsAt (bytes : List ℕ) (x : List ℕ × List ℕ × List ℕ) : Type 0 where
@@ -157,9 +157,9 @@ parts_whole bytes name_on value_on name rest a b c d =
       plain = n.plain;
       stands = run_all stands_in_value value_on;
       whole = behind_some (codes " ") bytes name_on a
-        ∙ ap (λ l. codes " " ++ l) (n.whole ∙ ap (λ l. name.0 ++ l) (behind_some (codes "=\"") name.1 value_on c
-            ∙ ap (λ l. codes "=\"" ++ l) (sym (take-append-drop len value_on) ∙ ap (λ l. value ++ l) (behind_some (codes "\"") (drop len value_on) rest d))))
-        ∙ sym (regrouped name.0 value rest);
+          ∙ ap (λ l. codes " " ++ l) (n.whole ∙ ap (λ l. name.0 ++ l) (behind_some (codes "=\"") name.1 value_on c
+          ∙ ap (λ l. codes "=\"" ++ l) (sym (take-append-drop len value_on) ∙ ap (λ l. value ++ l) (behind_some (codes "\"") (drop len value_on) rest d))))
+          ∙ sym (regrouped name.0 value rest);
     }
 
 pub parts_takes : (bytes : List ℕ) (x : List ℕ × List ℕ × List ℕ) → parts_at bytes ≡ Some x → ArePartsAt bytes x
@@ -170,8 +170,8 @@ parts_takes bytes x e =
     (λ name b e2. option_and_then_some _ (behind (codes "=\"") name.1) x e2
     (λ value_on c e3. option_and_then_some _ (behind (codes "\"") (drop (prefix_len stands_in_value value_on) value_on)) x e3
     (λ rest d e4.
-        let same : (name.0, take (prefix_len stands_in_value value_on) value_on, rest) ≡ x = cc in
-        subst (ArePartsAt bytes) same (parts_whole bytes name_on value_on name rest a b c d)))))
+    let same : (name.0, take (prefix_len stands_in_value value_on) value_on, rest) ≡ x = cc in
+    subst (ArePartsAt bytes) same (parts_whole bytes name_on value_on name rest a b c d)))))
 
 -- ---- an element's front, and the header
 
@@ -205,14 +205,14 @@ class_takes space bytes x e =
     (λ space_on a e1. option_and_then_some _ (behind space space_on) x e1
     (λ colon_on b e2. option_and_then_some _ (behind (codes ":") colon_on) x e2
     (λ name_on c e3.
-        let n = name_takes name_on x.0 x.1 e3 in
-        record {
-          plain = n.plain;
-          ends = n.ends;
-          whole = behind_some (codes "<") bytes space_on a
-            ∙ ap (λ l. codes "<" ++ l) (behind_some space space_on colon_on b ∙ ap (λ l. space ++ l) (behind_some (codes ":") colon_on name_on c ∙ ap (λ l. codes ":" ++ l) n.whole))
-            ∙ sym (front_regrouped space x.0 x.1);
-        })))
+    let n = name_takes name_on x.0 x.1 e3 in
+    record {
+      plain = n.plain;
+      ends = n.ends;
+      whole = behind_some (codes "<") bytes space_on a
+          ∙ ap (λ l. codes "<" ++ l) (behind_some space space_on colon_on b ∙ ap (λ l. space ++ l) (behind_some (codes ":") colon_on name_on c ∙ ap (λ l. codes ":" ++ l) n.whole))
+          ∙ sym (front_regrouped space x.0 x.1);
+    })))
 
 -- the header up to the model's name
 abbrev pub versions : List ℕ
@@ -242,8 +242,8 @@ header_takes space bytes rest e =
     (λ quote_on b e2. option_and_then_some _ (behind (codes "=\"") quote_on) rest e2
     (λ name_on c e3. option_and_then_some _ (behind space name_on) rest e3
     (λ end_on d e4.
-        behind_some versions bytes prefix_on a
-        ∙ ap (λ l. versions ++ l) (behind_some space prefix_on quote_on b
-            ∙ ap (λ l. space ++ l) (behind_some (codes "=\"") quote_on name_on c
-                ∙ ap (λ l. codes "=\"" ++ l) (behind_some space name_on end_on d ∙ ap (λ l. space ++ l) (behind_some (codes "\"") end_on rest e4))))
-        ∙ sym (header_regrouped space rest)))))
+    behind_some versions bytes prefix_on a
+    ∙ ap (λ l. versions ++ l) (behind_some space prefix_on quote_on b
+    ∙ ap (λ l. space ++ l) (behind_some (codes "=\"") quote_on name_on c
+    ∙ ap (λ l. codes "=\"" ++ l) (behind_some space name_on end_on d ∙ ap (λ l. space ++ l) (behind_some (codes "\"") end_on rest e4))))
+    ∙ sym (header_regrouped space rest)))))

@@ -1,5 +1,5 @@
 -- A whole source: its declaration, its one form, and that it has one list of elements.
-use Rattle.std.proofs.Common.{◌≡◌, ◌≢◌, ◌⊎◌, ℕ, ◌<◌, Bool, true, false, Option, Some, None, List, [], ◌∷◌, ◌++◌, refl, sym, ap, subst, ◌∙◌, inl, inr, arith, append_assoc, if◌then◌else◌}
+use Rattle.std.proofs.Common.{◌≡◌, ◌≢◌, ℕ, Bool, true, false, Option, Some, None, List, [], ◌∷◌, ◌++◌, refl, sym, ap, subst, ◌∙◌, inl, inr, arith, append_assoc, if◌then◌else◌}
 use Rattle.std.specs.Prelude.{codes}
 use Rattle.std.specs.List.{flat_map, list_all, AllByRecursion}
 use Rattle.std.specs.Option.{unwrap_or}
@@ -20,15 +20,15 @@ closing_same space [] (f ∷ fs) a b h k e = absurd (ends_not_lines a ((flat_map
 closing_same space (e ∷ es) [] a b h k same = absurd (ends_not_lines b ((flat_map (line_text space) (e ∷ es) ++ codes "</xmi:XMI>") ++ a) (sym same))
 closing_same space (e ∷ es) (f ∷ fs) a b h k same =
     (one_list_of_lines space (e ∷ es) (f ∷ fs) (codes "</xmi:XMI>" ++ a) (codes "</xmi:XMI>" ++ b) h k (no_line_ends space a) (no_line_ends space b)
-        (sym (append_assoc (flat_map (line_text space) (e ∷ es)) (codes "</xmi:XMI>") a)
-        ∙ append_cancel_left (codes ">\n") ((flat_map (line_text space) (e ∷ es) ++ codes "</xmi:XMI>") ++ a) ((flat_map (line_text space) (f ∷ fs) ++ codes "</xmi:XMI>") ++ b) same
-        ∙ append_assoc (flat_map (line_text space) (f ∷ fs)) (codes "</xmi:XMI>") b)).0
+    (sym (append_assoc (flat_map (line_text space) (e ∷ es)) (codes "</xmi:XMI>") a)
+    ∙ append_cancel_left (codes ">\n") ((flat_map (line_text space) (e ∷ es) ++ codes "</xmi:XMI>") ++ a) ((flat_map (line_text space) (f ∷ fs) ++ codes "</xmi:XMI>") ++ b) same
+    ∙ append_assoc (flat_map (line_text space) (f ∷ fs)) (codes "</xmi:XMI>") b)).0
 
 one_several : (space bytes : List ℕ) (es fs : List SourceElement) → IsSeveral space bytes es → IsSeveral space bytes fs → es ≡ fs
 one_several space bytes es fs s t =
     closing_same space es fs s.0 t.0 s.1 t.1
-        (append_cancel_left (header space) _ _
-            (append_cancel_left (codes "<xmi:XMI") (header space ++ (closing space es ++ s.0)) (header space ++ (closing space fs ++ t.0)) (sym (several_is space es s.0) ∙ sym s.3 ∙ t.3 ∙ several_is space fs t.0)))
+    (append_cancel_left (header space) _ _
+    (append_cancel_left (codes "<xmi:XMI") (header space ++ (closing space es ++ s.0)) (header space ++ (closing space fs ++ t.0)) (sym (several_is space es s.0) ∙ sym s.3 ∙ t.3 ∙ several_is space fs t.0)))
 
 one_alone : (space bytes : List ℕ) (es fs : List SourceElement) → IsLone space bytes es → IsLone space bytes fs → es ≡ fs
 one_alone space bytes es fs l m = l.4 ∙ ap (λ e. e ∷ []) (one_lone space l.0 m.0 l.1 m.1 l.2 m.2 (sym l.5 ∙ m.5)).0 ∙ sym m.4
@@ -39,10 +39,10 @@ not_both space bytes name other es fs s l =
     let inner : List ℕ = header space ++ (closing space es ++ s.0) in
     let class_on : List ℕ = l.0.class ++ (header space ++ tail l.0 l.1) in
     let same : codes "xmi" ++ (codes ":XMI" ++ inner) ≡ space ++ (codes ":" ++ class_on) =
-        append_cancel_left (codes "<") (codes "xmi" ++ (codes ":XMI" ++ inner)) (space ++ (codes ":" ++ class_on))
-            (sym (several_is space es s.0) ∙ sym s.3 ∙ l.5 ∙ lone_regrouped space l.0 l.1 ∙ front_regrouped space l.0.class (header space ++ tail l.0 l.1)) in
+    append_cancel_left (codes "<") (codes "xmi" ++ (codes ":XMI" ++ inner)) (space ++ (codes ":" ++ class_on))
+    (sym (several_is space es s.0) ∙ sym s.3 ∙ l.5 ∙ lone_regrouped space l.0 l.1 ∙ front_regrouped space l.0.class (header space ++ tail l.0 l.1)) in
     let both = same_pair (codes "xmi") (codes ":XMI" ++ inner) space (codes ":" ++ class_on)
-        (sym (name_again (codes "xmi") (codes ":XMI" ++ inner) refl refl) ∙ ap name_at same ∙ name_again space (codes ":" ++ class_on) name refl) in
+    (sym (name_again (codes "xmi") (codes ":XMI" ++ inner) refl refl) ∙ ap name_at same ∙ name_again space (codes ":" ++ class_on) name refl) in
     other (sym both.0)
 
 pub one_body : (space bytes : List ℕ) → is_plain_name space ≡ true → space ≢ codes "xmi" → (es fs : List SourceElement) → IsBody space bytes es → IsBody space bytes fs → es ≡ fs
@@ -72,7 +72,7 @@ not_declared space name es text end rest (inl l) same =
     let e = l.0 in
     let begun : lone_text space e ++ end ≡ declaration ++ rest = ap (λ t. t ++ end) (sym l.2) ∙ same in
     let regrouped : codes "<" ++ (space ++ (codes ":" ++ (e.class ++ (header space ++ tail e end)))) ≡ declaration ++ rest =
-        sym (front_regrouped space e.class (header space ++ tail e end)) ∙ sym (lone_regrouped space e end) ∙ begun in
+    sym (front_regrouped space e.class (header space ++ tail e end)) ∙ sym (lone_regrouped space e end) ∙ begun in
     let b = begins_first space (codes ":" ++ (e.class ++ (header space ++ tail e end))) name in
     let mark : begins_name 63 ≡ true = ap (λ l. begins_name (second l)) (sym regrouped) ∙ b in
     let both : true ≡ false = sym mark in
@@ -90,9 +90,14 @@ to_source space bytes es (inl s) =
     let d = body_is bytes (behind declaration bytes) refl in
     (d.0, s.2.0, several_text space es, s.1, inr refl, d.1 ∙ ap (λ l. (if d.0 then declaration else []) ++ l) (s.3 ∙ ap (λ l. several_text space es ++ l) s.2.1))
 to_source space bytes es (inr l) =
-    let d = body_is bytes (behind declaration bytes) refl in
-    (d.0, l.3.0, lone_text space l.0, subst (AllByRecursion IsElement) (sym l.4) (l.2, tt), inl (l.0, l.4, refl),
-     d.1 ∙ ap (λ t. (if d.0 then declaration else []) ++ t) (l.5 ∙ ap (λ t. lone_text space l.0 ++ t) l.3.1))
+    let d = body_is bytes (behind declaration bytes) refl in (
+      d.0,
+      l.3.0,
+      lone_text space l.0,
+      subst (AllByRecursion IsElement) (sym l.4) (l.2, tt),
+      inl (l.0, l.4, refl),
+      d.1 ∙ ap (λ t. (if d.0 then declaration else []) ++ t) (l.5 ∙ ap (λ t. lone_text space l.0 ++ t) l.3.1),
+    )
 
 undeclared : (space : List ℕ) → is_plain_name space ≡ true → (es : List SourceElement) (bytes text end : List ℕ) → Stand space es text → bytes ≡ text ++ end → (o : Option (List ℕ)) → behind declaration bytes ≡ o → unwrap_or o bytes ≡ text ++ end
 undeclared space name es bytes text end s e None h = e

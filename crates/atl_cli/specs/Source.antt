@@ -1,6 +1,6 @@
 -- The plainest source: a file of elements without children, each with attributes of text. One element may stand alone;
 -- otherwise they stand in an element xmi:XMI, each on a line of its own.
-use Rattle.std.specs.Prelude.{◌≡◌, ◌≢◌, ◌⊎◌, ℕ, ◌||◌, ◌==◌, Bool, true, false, not, List, [], ◌∷◌, ◌++◌, map, filter, find, take, drop, length, Option, Some, None, if◌then◌else◌, IsTrue, AllPairs, MatchOption, ◌<◌, codes}
+use Rattle.std.specs.Prelude.{◌≡◌, ◌≢◌, ◌⊎◌, ℕ, ◌||◌, ◌==◌, Bool, false, not, List, [], ◌∷◌, ◌++◌, map, filter, find, take, drop, length, Option, Some, None, if◌then◌else◌, IsTrue, AllPairs, MatchOption, ◌<◌, codes}
 use Rattle.std.specs.List.{flat_map, list_all, prefix_len, AllByRecursion}
 use Rattle.std.specs.Option.{option_map, option_and_then, unwrap_or}
 use Rattle.std.specs.Str.{bytes_eq}
@@ -53,11 +53,14 @@ pub record IsElement (e : SourceElement) : Type 0 where
 abbrev pub Stand : List ℕ → List SourceElement → List ℕ → Type 0
 Stand space es text = ((e : SourceElement) × (es ≡ e ∷ []) × (text ≡ lone_text space e)) ⊎ (text ≡ several_text space es)
 
+abbrev pub declaration : List ℕ
+declaration = codes "<?xml version=\"1.0\" encoding=\"UTF-8\"?>\n"
+
 -- The bytes are a source of these elements, in a model of this name: behind a declaration or not, and with a line feed
 -- at the end or not.
 abbrev pub IsSource : List ℕ → List ℕ → List SourceElement → Type 0
 IsSource space bytes es = (declared : Bool) × (ended : Bool) × (text : List ℕ) × AllByRecursion IsElement es × Stand space es text
-    × (bytes ≡ (if declared then codes "<?xml version=\"1.0\" encoding=\"UTF-8\"?>\n" else []) ++ (text ++ (if ended then codes "\n" else [])))
+    × (bytes ≡ (if declared then declaration else []) ++ (text ++ (if ended then codes "\n" else [])))
 
 -- ---- what is kept
 
@@ -69,12 +72,13 @@ value_of name attributes = option_map (λ a. a.value) (find (λ a. bytes_eq a.na
 abbrev pub kept_values : List ℕ → List ℕ → List SourceElement → List (Option (List ℕ))
 kept_values class read es = map (λ e. value_of read e.attributes) (filter (λ e. bytes_eq e.class class) es)
 
--- ---- reading by the front
+-- ---- the front of bytes, as the readers see it; that these agree with the texts above is proved in proofs/
 
 -- what follows a literal
 unfoldable pub behind : List ℕ → List ℕ → Option (List ℕ)
 behind front bytes = if bytes_eq (take (length front) bytes) front then Some (drop (length front) bytes) else None
 
+-- whether a name begins here
 abbrev pub begins : List ℕ → Bool
 begins [] = false
 begins (c ∷ cs) = begins_name c
@@ -89,34 +93,34 @@ name_at bytes =
 unfoldable pub parts_at : List ℕ → Option (List ℕ × List ℕ × List ℕ)
 parts_at bytes =
     option_and_then
-        (λ name_on. option_and_then
-            (λ name. option_and_then
-                (λ value_on.
-                    let len = prefix_len stands_in_value value_on in
-                    option_and_then (λ rest. Some (name.0, take len value_on, rest)) (behind (codes "\"") (drop len value_on)))
-                (behind (codes "=\"") name.1))
-            (name_at name_on))
-        (behind (codes " ") bytes)
+    (λ name_on. option_and_then
+    (λ name. option_and_then
+    (λ value_on.
+    let len = prefix_len stands_in_value value_on in
+    option_and_then (λ rest. Some (name.0, take len value_on, rest)) (behind (codes "\"") (drop len value_on)))
+    (behind (codes "=\"") name.1))
+    (name_at name_on))
+    (behind (codes " ") bytes)
 
 -- the class of an element, and what follows it
 unfoldable pub class_at : List ℕ → List ℕ → Option (List ℕ × List ℕ)
 class_at space bytes =
     option_and_then
-        (λ space_on. option_and_then (λ colon_on. option_and_then name_at (behind (codes ":") colon_on)) (behind space space_on))
-        (behind (codes "<") bytes)
+    (λ space_on. option_and_then (λ colon_on. option_and_then name_at (behind (codes ":") colon_on)) (behind space space_on))
+    (behind (codes "<") bytes)
 
 -- what follows the header
 unfoldable pub behind_header : List ℕ → List ℕ → Option (List ℕ)
 behind_header space bytes =
     option_and_then
-        (λ prefix_on. option_and_then
-            (λ quote_on. option_and_then
-                (λ name_on. option_and_then (λ end_on. behind (codes "\"") end_on) (behind space name_on))
-                (behind (codes "=\"") quote_on))
-            (behind space prefix_on))
-        (behind (codes " xmi:version=\"2.0\" xmlns:xmi=\"http://www.omg.org/XMI\" xmlns:xsi=\"http://www.w3.org/2001/XMLSchema-instance\" xmlns:") bytes)
+    (λ prefix_on. option_and_then
+    (λ quote_on. option_and_then
+    (λ name_on. option_and_then (λ end_on. behind (codes "\"") end_on) (behind space name_on))
+    (behind (codes "=\"") quote_on))
+    (behind space prefix_on))
+    (behind (codes " xmi:version=\"2.0\" xmlns:xmi=\"http://www.omg.org/XMI\" xmlns:xsi=\"http://www.w3.org/2001/XMLSchema-instance\" xmlns:") bytes)
 
--- the end, or a line feed before it
+-- nothing but the line feed that may end a source
 abbrev pub IsEnd : List ℕ → Type 0
 IsEnd bytes = (ended : Bool) × (bytes ≡ (if ended then codes "\n" else []))
 
@@ -142,9 +146,11 @@ NoLone space bytes = (e : SourceElement) (rest : List ℕ) → IsElement e → b
 abbrev pub AreLines : List ℕ → List ℕ → List SourceElement → Type 0
 AreLines space bytes es = (end : List ℕ) × AllByRecursion IsElement es × (0 < length es) × IsEnd end × (bytes ≡ flat_map (line_text space) es ++ (codes "</xmi:XMI>" ++ end))
 
+-- the element around none or several elements, and the end
 abbrev pub IsSeveral : List ℕ → List ℕ → List SourceElement → Type 0
 IsSeveral space bytes es = (end : List ℕ) × AllByRecursion IsElement es × IsEnd end × (bytes ≡ several_text space es ++ end)
 
+-- an element that stands alone, and the end
 abbrev pub IsLone : List ℕ → List ℕ → List SourceElement → Type 0
 IsLone space bytes es = (e : SourceElement) × (end : List ℕ) × IsElement e × IsEnd end × (es ≡ e ∷ []) × (bytes ≡ lone_text space e ++ end)
 
@@ -152,13 +158,10 @@ IsLone space bytes es = (e : SourceElement) × (end : List ℕ) × IsElement e �
 abbrev pub IsBody : List ℕ → List ℕ → List SourceElement → Type 0
 IsBody space bytes es = IsSeveral space bytes es ⊎ IsLone space bytes es
 
--- nothing is kept where no elements are P; else it is kept of elements that are
+-- nothing is answered where P holds of no elements; else what is kept of elements of which it holds
 abbrev pub Reads : (List SourceElement → Type 0) → List ℕ → List ℕ → Option Kept → Type 0
 Reads P class read kept = MatchOption kept ((es : List SourceElement) → P es → ⊥)
     (λ k. (es : List SourceElement) × P es × (k.values ≡ kept_values class read es) × (k.count ≡ length es))
-
-abbrev pub declaration : List ℕ
-declaration = codes "<?xml version=\"1.0\" encoding=\"UTF-8\"?>\n"
 
 -- what follows the declaration, or all where there is none
 abbrev pub body_of : List ℕ → List ℕ

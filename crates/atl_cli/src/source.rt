@@ -30,7 +30,8 @@ pub struct SourceElement {
     pub attributes: Items<SourceAttribute>,
 }
 
-/// What is kept of a source: of each element of the class, in order, the value of the attribute, where it has it; and how many elements there are.
+/// What is kept of a source: of each element of the class, in order, the value of the attribute, where it has it; and
+/// how many elements there are, of all classes.
 #[derive(Debug, Drop)]
 pub struct Kept {
     pub values: Items<Option<Text>>,
@@ -58,7 +59,8 @@ fn read_lone(
     Ok(Some(kept))
 }
 
-// A source behind its declaration.
+// A source behind its declaration. A broken one of several elements is refused here at its first name: no model is
+// named xmi.
 fn read_body(
     alloc: Global,
     bytes: &[u8],
@@ -84,8 +86,8 @@ fn behind_declaration(bytes: &[u8]) -> &[u8]
     }
 }
 
-/// What is kept of the elements of a source in a model of this name: of each element of the class, the value of the
-/// attribute to read. `None` where the bytes are no such source.
+/// Reads a source of the model `space`, and keeps of each element of `class` the value of the attribute `read`. It holds
+/// one element at a time. `None` where the bytes are no such source.
 pub fn read_source(
     alloc: Global,
     bytes: &[u8],
@@ -105,5 +107,7 @@ pub fn read_source(
 /// A source has one list of elements.
 pub fn one_source()
     ensures { (space bytes : List ℕ) (es fs : List SomeElement) → IsTrue (is_plain_name space) → space ≢ codes "xmi" → IsSource space bytes es → IsSource space bytes fs → es ≡ fs }
-{
-}
+{}
+
+#[cfg(test)]
+mod tests;

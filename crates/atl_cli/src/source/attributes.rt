@@ -4,8 +4,8 @@ ghost use Rattle.std.specs.List.{AllByRecursion};
 ghost use Rattle.atl_base.specs.XmlText.{IsXmlText};
 ghost use Rattle.atl_cli.specs.Source.{IsAttribute, NoAttribute, attribute_text, attributes_text};
 
-use super::front::parts_at;
 use super::SourceAttribute;
+use super::front::parts_at;
 use atl_base::text::{Text, TextRefusal};
 use sqlite_items::Items;
 use std::alloc::{AllocError, Global};
@@ -23,10 +23,7 @@ pub(crate) fn text_of(alloc: Global, bytes: &[u8]) -> Result<Option<Text>, Alloc
 }
 
 // An attribute, and what follows it.
-fn attribute_at(
-    alloc: Global,
-    bytes: &[u8],
-) -> Result<Option<(SourceAttribute, &[u8])>, AllocError>
+fn attribute_at(alloc: Global, bytes: &[u8]) -> Result<Option<(SourceAttribute, &[u8])>, AllocError>
     ensures { IfOk result (λ o. MatchOption o (NoAttribute bytes.now) (λ x. IsAttribute x.0 × (bytes.now ≡ attribute_text x.0 ++ x.1.now))) }
 {
     let Some((name, value, rest)) = parts_at(bytes) else {

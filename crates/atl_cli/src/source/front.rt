@@ -102,7 +102,10 @@ pub(crate) fn class_at<'a>(bytes: &'a [u8], space: &[u8]) -> Option<(&'a [u8], &
 pub(crate) fn behind_header<'a>(bytes: &'a [u8], space: &[u8]) -> Option<&'a [u8]>
     ensures { option_map (λ rest. rest.now) result ≡ behind_header_of space.now bytes.now }
 {
-    let rest = behind(bytes, b" xmi:version=\"2.0\" xmlns:xmi=\"http://www.omg.org/XMI\" xmlns:xsi=\"http://www.w3.org/2001/XMLSchema-instance\" xmlns:")?;
+    let rest = behind(
+        bytes,
+        b" xmi:version=\"2.0\" xmlns:xmi=\"http://www.omg.org/XMI\" xmlns:xsi=\"http://www.w3.org/2001/XMLSchema-instance\" xmlns:",
+    )?;
     let rest = behind(rest, space)?;
     let rest = behind(rest, b"=\"")?;
     let rest = behind(rest, space)?;

@@ -112,7 +112,11 @@ fn read_lines(
 fn read_none(alloc: Global, rest: &[u8]) -> Option<Kept>
     ensures { MatchOption result (IsEnd rest.now → ⊥) (λ k. IsEnd rest.now × (k.values ≡ []) × (k.count ≡ 0)) }
 {
-    if is_end(rest) { Some(nothing(alloc)) } else { None }
+    if is_end(rest) {
+        Some(nothing(alloc))
+    } else {
+        None
+    }
 }
 
 // Several elements, or none, in the element that holds them.

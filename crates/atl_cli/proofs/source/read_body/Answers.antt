@@ -10,5 +10,5 @@ returns c =
     let space = c.args.space.now in
     let bytes = c.args.bytes.now in
     IfOk-weaker c.read_lone.result _ _
-        (reads_map (IsLone space bytes) (IsBody space bytes) c.args.class.now c.args.read.now (λ es l. inr l) (λ es b. elim b [ inl s ↦ absurd (none es s) | inr l ↦ l ]))
-        c.read_lone.ensures
+    (reads_map (IsLone space bytes) (IsBody space bytes) c.args.class.now c.args.read.now (λ es l. inr l) (λ es b. elim b [ inl s ↦ absurd (none es s) | inr l ↦ l ]))
+    c.read_lone.ensures

@@ -1,4 +1,4 @@
-use Rattle.std.proofs.Common.{◌≡◌, ◌++◌, ◌∙◌, ◌∷◌, [], List, ℕ, true, false, refl, ap, sym, subst, arith}
+use Rattle.std.proofs.Common.{◌≡◌, ◌++◌, ◌∙◌, ◌∷◌, [], true, false, refl, ap, sym, subst, arith}
 use Rattle.atl_cli.specs.Source.{IsEnd, lone_text, kept_values}
 use Rattle.atl_cli.proofs.SourceElements.{one_lone}
 use Rattle.atl_cli.proofs.source.read_lone.Goals as goal
@@ -21,7 +21,9 @@ pub returns : goal.returns
 returns c =
     let e = c.in-Some.element in
     let some = rw c.in-Some.is at c.in_ok-element.ensures in
-    let whole = some.1 ∙ ap (λ s. lone_text s e ++ c.in-Some.rest.now) c.bytes.ensures.bytes in
-    (e ∷ [], (e, c.in-Some.rest.now, some.0, c.is_end.ensures.0 c.if-not-is_end.false, refl, whole),
-     c.in_ok-keep.ensures.values ∙ ap (λ l. l ++ kept_values c.args.class.now c.args.read.now (e ∷ [])) c.nothing-kept.ensures.values,
-     omega (arith, c.in_ok-keep.ensures.count, c.nothing-kept.ensures.count))
+    let whole = some.1 ∙ ap (λ s. lone_text s e ++ c.in-Some.rest.now) c.bytes.ensures.bytes in (
+      e ∷ [],
+      (e, c.in-Some.rest.now, some.0, c.is_end.ensures.0 c.if-not-is_end.false, refl, whole),
+      c.in_ok-keep.ensures.values ∙ ap (λ l. l ++ kept_values c.args.class.now c.args.read.now (e ∷ [])) c.nothing-kept.ensures.values,
+      omega (arith, c.in_ok-keep.ensures.count, c.nothing-kept.ensures.count),
+    )

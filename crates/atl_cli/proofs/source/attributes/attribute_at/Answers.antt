@@ -27,6 +27,7 @@ returns c =
     let t = parts_takes c.args.bytes.now _ (sym c.in-Some.ensures) in
     let name = rw c.in-Some-2.is at c.in_ok-name.ensures in
     let value = rw c.in-Some-3.is at c.in_ok-value.ensures in
-    let rest = c.in-Some.rest.now in
-    (record { name = ap is_plain_name name.0 ∙ t.plain; value = ap (list_all stands_in_value) value.0 ∙ t.stands; text = subst IsXmlText (sym value.0) value.1; },
-     t.whole ∙ ap (λ n. written n c.in-Some.value.now ++ rest) (sym name.0) ∙ ap (λ v. written c.in-Some-2.name v ++ rest) (sym value.0))
+    let rest = c.in-Some.rest.now in (
+      record { name = ap is_plain_name name.0 ∙ t.plain; value = ap (list_all stands_in_value) value.0 ∙ t.stands; text = subst IsXmlText (sym value.0) value.1 },
+      t.whole ∙ ap (λ n. written n c.in-Some.value.now ++ rest) (sym name.0) ∙ ap (λ v. written c.in-Some-2.name v ++ rest) (sym value.0),
+    )

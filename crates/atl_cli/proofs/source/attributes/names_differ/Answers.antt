@@ -1,4 +1,4 @@
-use Rattle.std.proofs.Common.{◌≡◌, ◌≢◌, ◌<◌, ◌∙◌, List, ℕ, Bool, true, false, cond, not, length, take, get_or, refl, ap, sym, subst, arith, Bor}
+use Rattle.std.proofs.Common.{◌≡◌, ◌≢◌, ◌∙◌, List, ℕ, Bool, true, false, cond, take, get_or, refl, ap, sym, subst}
 use Rattle.std.specs.Prelude.{AllPairs}
 use Rattle.std.specs.List.{list_any}
 use Rattle.std.specs.Str.{bytes_eq}
@@ -30,12 +30,13 @@ loop-attribute-preserved c =
     let same : c.as_str.result.now ≡ (get_or xs at d).name = c.as_str.ensures.text ∙ ap (λ a. a.name) c.attribute-item.is in
     let held : contains (λ x y. slice_cmp nat_cmp x.now y.now) c.loop-attribute.names c.as_str.result ≡ false = not-true _ (sym c.in_ok-insert.ensures.added ∙ c.if-not-branch.false) in
     let P : List ℕ → Type 0 = λ k. list_any (λ n. bytes_eq n k) (names (take at xs)) ≡ false in
-    let once = subst P same (sym (c.loop-attribute.invariant.1 c.as_str.result) ∙ held) in
-    (differ_more xs at d c.loop-attribute-test.true once c.loop-attribute.invariant.0,
-     λ q.
-        let old : Bool = contains (λ x y. slice_cmp nat_cmp x.now y.now) c.loop-attribute.names q in
-        known_more xs at d q.now old _ c.loop-attribute-test.true (c.loop-attribute.invariant.1 q)
-            (c.in_ok-insert.ensures.updates.0 q ∙ ap (λ b. cond b true old) (is_eq-slice_cmp c.as_str.result.now q.now ∙ ap (λ k. bytes_eq k q.now) same)))
+    let once = subst P same (sym (c.loop-attribute.invariant.1 c.as_str.result) ∙ held) in (
+      differ_more xs at d c.loop-attribute-test.true once c.loop-attribute.invariant.0,
+      λ q.
+          let old : Bool = contains (λ x y. slice_cmp nat_cmp x.now y.now) c.loop-attribute.names q in
+          known_more xs at d q.now old _ c.loop-attribute-test.true (c.loop-attribute.invariant.1 q)
+          (c.in_ok-insert.ensures.updates.0 q ∙ ap (λ b. cond b true old) (is_eq-slice_cmp c.as_str.result.now q.now ∙ ap (λ k. bytes_eq k q.now) same)),
+    )
 
 pub returns : goal.returns
 returns c =

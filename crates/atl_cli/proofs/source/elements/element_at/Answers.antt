@@ -1,6 +1,5 @@
-use Rattle.std.proofs.Common.{◌≡◌, ◌≢◌, ◌∙◌, ◌++◌, List, ℕ, true, false, codes, ap, sym, subst, refl}
-use Rattle.std.specs.Prelude.{AllPairs, map}
-use Rattle.atl_base.specs.XmlText.{IsXmlText}
+use Rattle.std.proofs.Common.{◌≡◌, ◌≢◌, ◌∙◌, List, true, false, codes, ap, sym, subst}
+use Rattle.std.specs.Prelude.{AllPairs}
 use Rattle.atl_cli.specs.Plain.{is_plain_name}
 use Rattle.atl_cli.specs.declared.source.SourceAttribute.{SourceAttribute}
 use Rattle.atl_cli.proofs.SourceAttributes.{plain_text, names}
@@ -31,7 +30,8 @@ pub returns : goal.returns
 returns c =
     let a = c.in_ok-attributes.ensures in
     let class = rw c.in-Some-2.is at c.in_ok-class.ensures in
-    let P : List SourceAttribute → Type 0 = λ xs. AllPairs (λ x y. x ≢ y) (names xs) in
-    (record { class = ap is_plain_name class.0 ∙ c.requires; attributes = a.0; differ = subst P c.as_slice.ensures (c.in_ok-names_differ.ensures.0 c.if-not-branch.false); },
-     class.0,
-     element_whole c.args.bytes.now c.in_ok-attributes.rest.now c.in-Some.rest.now c.in_ok-attributes.attributes a.2 (sym c.in-Some.ensures))
+    let P : List SourceAttribute → Type 0 = λ xs. AllPairs (λ x y. x ≢ y) (names xs) in (
+      record { class = ap is_plain_name class.0 ∙ c.requires; attributes = a.0; differ = subst P c.as_slice.ensures (c.in_ok-names_differ.ensures.0 c.if-not-branch.false) },
+      class.0,
+      element_whole c.args.bytes.now c.in_ok-attributes.rest.now c.in-Some.rest.now c.in_ok-attributes.attributes a.2 (sym c.in-Some.ensures),
+    )

@@ -1,4 +1,4 @@
-use Rattle.std.proofs.Common.{◌≡◌, ◌∙◌, ◌++◌, List, ℕ, codes, sym}
+use Rattle.std.proofs.Common.{◌∙◌, ◌++◌, codes, sym}
 use Rattle.atl_cli.proofs.SourceFronts.{class_takes, front_of}
 use Rattle.atl_cli.proofs.SourceElements.{not_behind, tail, line_regrouped, no_class_no_line, no_element_no_line, no_feed_no_line, line_read}
 use Rattle.atl_cli.proofs.source.elements.line_at.Goals as goal
@@ -22,10 +22,12 @@ pub returns-in_default-behind : goal.returns-in_default-behind
 returns-in_default-behind c =
     let some = rw c.in-Some-2.is at c.in_ok-element.ensures in
     no_feed_no_line c.args.space.now c.args.bytes.now c.in-Some.rest.now c.in-Some-class_at.class.now c.in-Some-class_at.rest.now c.in-Some-2.rest.now c.in-Some-2.element
-        (sym c.in-Some.ensures) (sym c.in-Some-class_at.ensures) some.0 some.1 some.2 (sym c.in_default-behind.ensures)
+    (sym c.in-Some.ensures) (sym c.in-Some-class_at.ensures) some.0 some.1 some.2 (sym c.in_default-behind.ensures)
 
 pub returns : goal.returns
 returns c =
-    let some = rw c.in-Some-2.is at c.in_ok-element.ensures in
-    (some.0, line_read c.args.space.now c.args.bytes.now c.in-Some.rest.now c.in-Some-class_at.class.now c.in-Some-class_at.rest.now c.in-Some-2.rest.now c.in-Some-behind.rest.now c.in-Some-2.element
-        (sym c.in-Some.ensures) (sym c.in-Some-class_at.ensures) some.1 some.2 (sym c.in-Some-behind.ensures))
+    let some = rw c.in-Some-2.is at c.in_ok-element.ensures in (
+      some.0,
+      line_read c.args.space.now c.args.bytes.now c.in-Some.rest.now c.in-Some-class_at.class.now c.in-Some-class_at.rest.now c.in-Some-2.rest.now c.in-Some-behind.rest.now c.in-Some-2.element
+          (sym c.in-Some.ensures) (sym c.in-Some-class_at.ensures) some.1 some.2 (sym c.in-Some-behind.ensures),
+    )

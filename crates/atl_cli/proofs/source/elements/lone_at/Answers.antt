@@ -16,5 +16,5 @@ element_at-requires c = (class_takes c.args.space.now c.args.bytes.now (c.in-Som
 pub returns : goal.returns
 returns c =
     IfOk-weaker c.element_at.result _ _
-        (lone_from c.args.space.now c.args.bytes.now c.in-Some.class.now c.in-Some.rest.now c.in-Some-behind_header.rest.now (sym c.in-Some.ensures) (sym c.in-Some-behind_header.ensures))
-        c.element_at.ensures
+    (lone_from c.args.space.now c.args.bytes.now c.in-Some.class.now c.in-Some.rest.now c.in-Some-behind_header.rest.now (sym c.in-Some.ensures) (sym c.in-Some-behind_header.ensures))
+    c.element_at.ensures

@@ -1,4 +1,4 @@
-use Rattle.std.proofs.Common.{◌≡◌, ◌++◌, ◌∙◌, ◌<◌, List, ℕ, true, false, codes, length, ap, sym, subst, arith}
+use Rattle.std.proofs.Common.{◌≡◌, ◌++◌, ◌∙◌, true, false, codes, length, ap, sym, subst, arith}
 use Rattle.std.specs.List.{flat_map}
 use Rattle.atl_cli.specs.Source.{IsEnd, line_text}
 use Rattle.atl_cli.proofs.SourceFronts.{behind_some}
@@ -30,6 +30,15 @@ returns-then-not-is_end c = λ fs l.
 pub returns : goal.returns
 returns c =
     let k = c.in_ok-kept.ensures in
-    let rest = c.in-Some.rest.now in
-    (k.0, (rest, k.1, omega (arith, k.5, c.if-kept-eq0.false), c.is_end.ensures.0 c.if-not-is_end.false,
-        k.3 ∙ ap (λ t. flat_map (line_text c.args.space.now) k.0 ++ t) (behind_some (codes "</xmi:XMI>") c.in_ok-kept.rest.now rest (sym c.in-Some.ensures))), k.4, k.5)
+    let rest = c.in-Some.rest.now in (
+      k.0,
+      (
+        rest,
+        k.1,
+        omega (arith, k.5, c.if-kept-eq0.false),
+        c.is_end.ensures.0 c.if-not-is_end.false,
+        k.3 ∙ ap (λ t. flat_map (line_text c.args.space.now) k.0 ++ t) (behind_some (codes "</xmi:XMI>") c.in_ok-kept.rest.now rest (sym c.in-Some.ensures)),
+      ),
+      k.4,
+      k.5,
+    )
