@@ -1,12 +1,12 @@
 -- Why a text has no tokens, as relations, and the laws of tokens: the function answers tokens exactly where the text has
 -- them, and a refusal exactly where this one holds.
-use Rattle.std.specs.Prelude.{◌≡◌, ◌⊎◌, ℕ, List, [], ◌∷◌, ◌++◌, Option, None, Some, Result, Ok, Err, true, false}
+use Rattle.std.specs.Prelude.{◌≡◌, ◌⊎◌, ℕ, List, ◌∷◌, ◌++◌, None, Some, Ok, Err, false}
 use Rattle.atl_base.specs.declared.place.Place.{Place}
 use Rattle.atl_tree.specs.declared.token.Token.{Token}
 use Rattle.atl_tree.specs.declared.token.Tokens.{Tokens}
 use Rattle.atl_tree.specs.declared.token.LexRefusal.{LexRefusal}
 use Rattle.atl_tree.specs.declared.token.LexRefusal.TheVariants as R
-use Rattle.atl_tree.specs.Pieces.{Piece, IsPiece}
+use Rattle.atl_tree.specs.Pieces.{Piece}
 use Rattle.atl_tree.specs.Cutting.{chars_of, Begins, IsCut, IsStuck}
 use Rattle.atl_tree.specs.Tokens.{place, after, tokens_from, first_fault, body_of, begin_byte, HasTokens, tokens_of}
 
@@ -48,4 +48,4 @@ pub record IsExact (text : List ℕ) : Type 0 where
 abbrev pub IsBadFront : List ℕ → Type 0
 IsBadFront text = (p : Place) → tokens_of text ≡ Err (R.BadByte p)
     → (front : List ℕ) × (c : ℕ) × (cs : List ℕ) × (body_of text ≡ front ++ (c ∷ cs)) × (p ≡ after (place 1 1) front)
-        × ((more : List ℕ) (ps : List Piece) → IsCut (front ++ (c ∷ more)) ps → ⊥)
+    × ((more : List ℕ) (ps : List Piece) → IsCut (front ++ (c ∷ more)) ps → ⊥)
