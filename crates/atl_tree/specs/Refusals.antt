@@ -19,8 +19,8 @@ abbrev pub BeginsNone : ℕ → Type 0
 BeginsNone c = (more : List ℕ) → IsStuck (c ∷ more)
 
 -- the text begins with pieces of which none is refused, then comes a character, and the place is that of the character
-abbrev pub Fails : (ℕ → List ℕ → Type 0) → List ℕ → Place → Type 0
-Fails Why text p = (ps : List Piece) × (c : ℕ) × (cs : List ℕ) × Begins (body_of text) ps (c ∷ cs) × Why c cs
+abbrev pub StopsAt : (ℕ → List ℕ → Type 0) → List ℕ → Place → Type 0
+StopsAt Why text p = (ps : List Piece) × (c : ℕ) × (cs : List ℕ) × Begins (body_of text) ps (c ∷ cs) × Why c cs
     × (first_fault false (front_tokens text ps) ≡ None) × (p ≡ after (place 1 1) (chars_of ps))
 
 -- a text or a quoted name begins, and no text and no quoted name that begins so has an end
@@ -32,8 +32,8 @@ abbrev pub IsFault : List ℕ → LexRefusal → Type 0
 IsFault text e = (ps : List Piece) × (rest : List ℕ) × Begins (body_of text) ps rest × IsStuck rest × (first_fault false (front_tokens text ps) ≡ Some e)
 
 abbrev pub Refuses : List ℕ → LexRefusal → Type 0
-Refuses text (R.BadByte p) = Fails (λ c cs. BeginsNone c) text p
-Refuses text (R.OpenText p) = Fails HasNoEnd text p
+Refuses text (R.BadByte p) = StopsAt (λ c cs. BeginsNone c) text p
+Refuses text (R.OpenText p) = StopsAt HasNoEnd text p
 Refuses text (R.WideNumber p) = IsFault text (R.WideNumber p)
 Refuses text (R.RealNumber p) = IsFault text (R.RealNumber p)
 Refuses text R.Memory = ⊥
