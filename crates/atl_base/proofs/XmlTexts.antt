@@ -1,16 +1,16 @@
 -- Laws of XML text: what is put together of texts is one, and none reaches past a character that no text has.
-use Rattle.std.proofs.Common.{◌≡◌, ◌≢◌, ℕ, ◌+◌, ◌-◌, cond, ◌<◌, ◌≤◌, ◌||◌, ◌&&◌, ◌⊎◌, Bool, true, false, List, [], ◌∷◌, ◌++◌, length, take, drop, refl, inl, inr, sym, ap, subst, ◌∙◌, append_assoc, arith}
+use Rattle.std.proofs.Common.{◌≡◌, ◌≢◌, ℕ, ◌+◌, ◌-◌, cond, ◌<◌, ◌≤◌, ◌||◌, ◌&&◌, ◌⊎◌, nat_lt, Bool, true, false, List, [], ◌∷◌, ◌++◌, length, take, drop, refl, inl, inr, sym, ap, subst, ◌∙◌, append_assoc, arith}
 use Rattle.std.specs.Str.{IsUtf8, IsValidUpTo, all_scalars, encode_utf8_all, IsCharBoundary}
 use Rattle.std.specs.Char.{encode_utf8}
 use Rattle.std.specs.Int.{is_in_range}
 use Rattle.std.specs.List.{list_all}
-use Rattle.std.proofs.lemmas.Bool.{and_parts, and_from, cases_lt}
+use Rattle.std.proofs.lemmas.Bool.{and_parts, and_from, cases_lt, ltb-true}
 use Rattle.std.proofs.lemmas.Bool.Decides.{nat_tests}
 use Rattle.std.proofs.lemmas.List.{append-nil, length-append, length-take, take-append-drop, take-take, take_all, drop-take}
 use Rattle.std.proofs.lemmas.List.Folds.{list_all-append}
-use Rattle.std.proofs.lemmas.Str.{encode_same, encodes-append, encodes_same, IsUtf8-take, IsUtf8-drop, IsUtf8-between, length-encode, len_utf8_bounds}
+use Rattle.std.proofs.lemmas.Str.{encode_same, encodes-append, encodes_same, IsUtf8-take, IsUtf8-drop, IsUtf8-between, length-encode, len_utf8_bounds, encode_ascii, cons_from_encodes}
 use Rattle.std.proofs.Math.Seq.{take-append_seam}
-use Rattle.atl_base.specs.XmlText.{is_xml_character, IsXmlText, IsFirstOffence}
+use Rattle.atl_base.specs.XmlText.{is_xml_character, is_ascii_text, IsXmlText, IsFirstOffence}
 
 pub IsXmlText-nil : IsXmlText []
 IsXmlText-nil = ([], refl, refl)
@@ -46,20 +46,20 @@ blocked [] rest (d ∷ ds) tail b h e =
     absurd (b d (encode_utf8_all ds ++ tail) (and_parts _ _ h).0 (sym e ∙ append_assoc (encode_utf8 d) (encode_utf8_all ds) tail))
 blocked (c ∷ cs) rest (d ∷ ds) tail b h e =
     let s = encode_same d c (encode_utf8_all ds ++ tail) (encode_utf8_all cs ++ rest)
-        (sym (append_assoc (encode_utf8 d) (encode_utf8_all ds) tail) ∙ e ∙ append_assoc (encode_utf8 c) (encode_utf8_all cs) rest) in
+    (sym (append_assoc (encode_utf8 d) (encode_utf8_all ds) tail) ∙ e ∙ append_assoc (encode_utf8 c) (encode_utf8_all cs) rest) in
     let shorter : length (encode_utf8_all ds) ≤ length (encode_utf8_all cs) = blocked cs rest ds tail b (and_parts _ _ h).1 s.1 in
     omega (arith, length-append (encode_utf8 d) (encode_utf8_all ds), length-append (encode_utf8 c) (encode_utf8_all cs), ap (λ x. length (encode_utf8 x)) s.0)
 
 -- where a text is followed by what no text begins with, there the first offence stands
 pub offence : (seen rest : List ℕ) → IsXmlText seen → Blocks rest → 0 < length rest → IsFirstOffence (seen ++ rest) (length seen)
 offence seen rest p b some = record {
-    front = subst IsXmlText (sym (take-append_seam seen rest)) p;
-    longest = λ m more q.
-        let e : encode_utf8_all q.0 ++ drop m (seen ++ rest) ≡ encode_utf8_all p.0 ++ rest =
-            ap (λ l. l ++ drop m (seen ++ rest)) q.2 ∙ take-append-drop m (seen ++ rest) ∙ ap (λ l. l ++ rest) (sym p.2) in
-        let within : length (encode_utf8_all q.0) ≤ length (encode_utf8_all p.0) = blocked p.0 rest q.0 (drop m (seen ++ rest)) b q.1 e in
-        absurd (omega (arith, within, ap length q.2, ap length p.2, length-append seen rest, length-take m (seen ++ rest)));
-  }
+  front = subst IsXmlText (sym (take-append_seam seen rest)) p;
+  longest = λ m more q.
+      let e : encode_utf8_all q.0 ++ drop m (seen ++ rest) ≡ encode_utf8_all p.0 ++ rest =
+      ap (λ l. l ++ drop m (seen ++ rest)) q.2 ∙ take-append-drop m (seen ++ rest) ∙ ap (λ l. l ++ rest) (sym p.2) in
+      let within : length (encode_utf8_all q.0) ≤ length (encode_utf8_all p.0) = blocked p.0 rest q.0 (drop m (seen ++ rest)) b q.1 e in
+      absurd (omega (arith, within, ap length q.2, ap length p.2, length-append seen rest, length-take m (seen ++ rest)));
+}
 
 -- a character that XML doesn't have blocks
 pub Blocks-char : (c : ℕ) (t : List ℕ) → is_xml_character c ≡ false → Blocks (encode_utf8 c ++ t)
@@ -75,7 +75,7 @@ length-encode_some c t = omega (arith, length-append (encode_utf8 c) t, length-e
 cut : (bs xs ys : List ℕ) → IsXmlText bs → bs ≡ xs ++ ys → IsUtf8 xs → IsUtf8 ys → IsXmlText xs × IsXmlText ys
 cut bs xs ys p e u v =
     let same : p.0 ≡ u.0 ++ v.0 =
-        encodes_same p.0 (u.0 ++ v.0) (p.2 ∙ e ∙ ap (λ l. l ++ ys) (sym u.1.1) ∙ ap (λ l. encode_utf8_all u.0 ++ l) (sym v.1.1) ∙ sym (encodes-append u.0 v.0)) in
+    encodes_same p.0 (u.0 ++ v.0) (p.2 ∙ e ∙ ap (λ l. l ++ ys) (sym u.1.1) ∙ ap (λ l. encode_utf8_all u.0 ++ l) (sym v.1.1) ∙ sym (encodes-append u.0 v.0)) in
     let parts = and_parts (list_all is_xml_character u.0) (list_all is_xml_character v.0) (sym (list_all-append is_xml_character u.0 v.0) ∙ ap (list_all is_xml_character) (sym same) ∙ p.1) in
     ((u.0, parts.0, u.1.1), (v.0, parts.1, v.1.1))
 
@@ -101,13 +101,13 @@ longest_in_front bs n k m v o more q (inr h) = o.longest m more (subst IsXmlText
 
 pub offence_in_front : (bs : List ℕ) (n k : ℕ) → IsValidUpTo bs n → IsFirstOffence (take n bs) k → IsFirstOffence bs k
 offence_in_front bs n k v o = record {
-    front = subst IsXmlText (take-take k n bs (within_front bs n k o (cases_lt n k))) o.front;
-    longest = λ m more q. longest_in_front bs n k m v o more q (cases_lt n m);
-  }
+  front = subst IsXmlText (take-take k n bs (within_front bs n k o (cases_lt n k))) o.front;
+  longest = λ m more q. longest_in_front bs n k m v o more q (cases_lt n m);
+}
 
 -- a front that is UTF-8 and a text, before what is no UTF-8
 pub offence_after_front : (bs : List ℕ) (n : ℕ) → IsValidUpTo bs n → IsXmlText (take n bs) → IsFirstOffence bs n
-offence_after_front bs n v p = record { front = p; longest = λ m more q. v.longest m more (IsUtf8-from_text (take m bs) q); }
+offence_after_front bs n v p = record { front = p; longest = λ m more q. v.longest m more (IsUtf8-from_text (take m bs) q) }
 
 -- after a push that may be refused
 pub IsXmlText-pushed : (b : Bool) (xs ys new : List ℕ) → IsXmlText xs → IsXmlText ys → new ≡ cond b (xs ++ ys) xs → IsXmlText new
@@ -122,7 +122,7 @@ IsXmlText-between bs i j h p b d =
     let around : i + (j - i) ≡ j = omega arith in
     let behind : drop i (take j bs) ≡ part = ap (λ n. drop i (take n bs)) (sym around) ∙ drop-take i (j - i) bs in
     let e : take j bs ≡ take i bs ++ part =
-        sym (take-append-drop i (take j bs)) ∙ ap (λ l. l ++ drop i (take j bs)) (take-take i j bs h) ∙ ap (λ l. take i bs ++ l) behind in
+    sym (take-append-drop i (take j bs)) ∙ ap (λ l. l ++ drop i (take j bs)) (take-take i j bs h) ∙ ap (λ l. take i bs ++ l) behind in
     (cut (take j bs) (take i bs) part front e (IsUtf8-take bs i (IsUtf8-from_text bs p) b) (IsUtf8-between bs i j (IsUtf8-from_text bs p) h b d)).1
 
 -- the first offence of the longest front that is UTF-8
@@ -134,3 +134,19 @@ offence_of_front bs front k (inr h) o = offence_in_front bs (length front) k h.0
 pub offence_past_front : (bs front : List ℕ) → (front ≡ bs) ⊎ (IsValidUpTo bs (length front) × (front ≡ take (length front) bs)) → length front < length bs → IsXmlText front → IsFirstOffence bs (length front)
 offence_past_front bs front (inl e) h p = absurd (omega (arith, ap length e))
 offence_past_front bs front (inr v) h p = offence_after_front bs (length front) v.0 (subst IsXmlText v.1 p)
+
+-- a literal
+pub IsXmlText-ascii : (bs : List ℕ) → list_all is_ascii_text bs ≡ true → IsXmlText bs
+IsXmlText-ascii [] h = IsXmlText-nil
+IsXmlText-ascii (b ∷ bs) h =
+    let parts = and_parts (is_ascii_text b) (list_all is_ascii_text bs) h in
+    let here = and_parts (nat_lt b 128) (is_xml_character b) parts.0 in
+    let one : IsXmlText (b ∷ []) = subst IsXmlText (encode_ascii b (ltb-true b 128 here.0)) (IsXmlText-encode b here.1) in
+    IsXmlText-append (b ∷ []) bs one (IsXmlText-ascii bs parts.1)
+
+-- the first character of a text, and what follows it
+pub IsXmlText-parts : (c : ℕ) (rest : List ℕ) → IsXmlText (encode_utf8 c ++ rest) → (is_xml_character c ≡ true) × IsXmlText rest
+IsXmlText-parts c rest p =
+    let q = cons_from_encodes p.0 rest c p.2 in
+    let parts = and_parts (is_xml_character c) (list_all is_xml_character q.0) (ap (list_all is_xml_character) (sym q.1) ∙ p.1) in
+    (parts.0, (q.0, parts.1, q.2))

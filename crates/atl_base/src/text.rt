@@ -1,7 +1,8 @@
 // Text, which contracts see as its bytes.
-ghost use Rattle.std.specs.Prelude.{◌≡◌, ◌++◌, ◌≤◌, [], IfOk, OnErr, OnOk, MatchResult, slice_range};
+ghost use Rattle.std.specs.Prelude.{◌≡◌, ◌++◌, ◌≤◌, [], IfOk, OnErr, OnOk, MatchResult, slice_range, IsTrue, encode_utf8};
 ghost use Rattle.std.specs.Str.{IsCharBoundary};
-ghost use Rattle.atl_base.specs.XmlText.{IsXmlText, IsFirstOffence};
+ghost use Rattle.atl_base.specs.XmlText.{IsXmlText, IsFirstOffence, is_xml_character, is_ascii_text};
+ghost use Rattle.std.specs.List.{list_all};
 ghost use Rattle.atl_base.specs.Refusal.{Refuses};
 
 use crate::xml_text::{first_outside, utf8_front};
@@ -72,6 +73,16 @@ impl Text {
         })
     }
 
+    /// The text of a literal.
+    pub fn from_ascii(alloc: Global, literal: &str) -> Result<Text, AllocError>
+        requires { IsTrue (list_all is_ascii_text literal.now) }
+        ensures { IfOk result (λ t. t ≡ literal.now) }
+    {
+        let mut text = Text::new(alloc);
+        text.push_ascii(literal)?;
+        Ok(text)
+    }
+
     pub fn as_str(&self) -> &str
         ensures text { result.now ≡ self.now }
         ensures xml { IsXmlText self.now }
@@ -117,13 +128,22 @@ impl Text {
         self.inner.push_str(more)
     }
 
-    /// Adds a piece at the end, as a literal. After an `Err` the text is as before.
-    pub fn push_str(&mut self, more: &str) -> Result<(), AllocError>
-        requires { IsXmlText more.now }
+    /// Adds a literal at the end. After an `Err` the text is as before.
+    pub fn push_ascii(&mut self, more: &str) -> Result<(), AllocError>
+        requires { IsTrue (list_all is_ascii_text more.now) }
         ensures ok { OnOk result (self.new ≡ self.old ++ more.now) }
         ensures err { OnErr result (self.new ≡ self.old) }
     {
         self.inner.push_str(more)
+    }
+
+    /// Adds a character at the end. After an `Err` the text is as before.
+    pub fn push_char(&mut self, c: char) -> Result<(), AllocError>
+        requires { IsTrue (is_xml_character c) }
+        ensures ok { OnOk result (self.new ≡ self.old ++ encode_utf8 c) }
+        ensures err { OnErr result (self.new ≡ self.old) }
+    {
+        self.inner.push(c)
     }
 }
 
@@ -146,3 +166,6 @@ impl Eq for Text {
 
     ghost laws = { nat_list_eq_equiv };
 }
+
+#[cfg(test)]
+mod tests;

@@ -1,0 +1,3 @@
+pub mod Escaping
+pub mod Opened
+pub mod WrittenElements

@@ -1,0 +1,9 @@
+use Rattle.std.proofs.Common.{◌≡◌, ◌++◌, take}
+use Rattle.std.specs.Prelude.{filter, not}
+use Rattle.std.specs.List.{flat_map}
+use Rattle.doc_text.specs.Written.{written_attribute, is_version}
+use Rattle.doc_text.proofs.write.push_others.Given as goal
+
+-- the attributes so far are written
+abbrev pub invariant-loop-attribute : goal.invariant-loop-attribute
+invariant-loop-attribute l = l.out ≡ l.fn.out ++ flat_map (written_attribute l.declared) (filter (λ a. not (is_version a)) (take l.attribute-index l.attributes))
