@@ -1,17 +1,16 @@
 -- The machine cuts a text as the relation says, and the relation leaves no choice.
-use Rattle.std.proofs.Common.{◌≡◌, ◌≢◌, ℕ, ◌+◌, ◌-◌, cond, ◌<◌, ◌≤◌, ◌==◌, ◌⊎◌, Bool, true, false, List, [], ◌∷◌, ◌++◌, length, take, refl, inl, inr, sym, ap, subst, ◌∙◌, append_assoc, arith, Option, None, Some}
-use Rattle.std.specs.List.{flat_map}
+use Rattle.std.proofs.Common.{◌≡◌, ℕ, ◌-◌, ◌<◌, ◌≤◌, ◌⊎◌, List, [], ◌∷◌, ◌++◌, length, take, refl, inl, inr, sym, ap, subst, ◌∙◌, append_assoc, arith, Option, None, Some}
 use Rattle.std.proofs.lemmas.Bool.{cases_lt}
-use Rattle.std.proofs.lemmas.List.{append-nil, length-append, append_cancel_left}
+use Rattle.std.proofs.lemmas.List.{append-nil, length-append}
 use Rattle.atl_tree.specs.declared.token.TokenSort.{TokenSort}
 use Rattle.atl_tree.specs.declared.token.TokenSort.TheVariants as T
 use Rattle.atl_tree.specs.declared.state.State.{State}
 use Rattle.atl_tree.specs.declared.state.State.TheVariants as S
 use Rattle.atl_tree.specs.declared.state.Stop.{Stop}
 use Rattle.atl_tree.specs.declared.state.Stop.TheVariants.{Over, Bad, Open}
-use Rattle.atl_tree.specs.Pieces.{Piece, IsPiece, IsPieceOf, IsDigits, IsNumber, IsMark, is_digit, is_single}
-use Rattle.atl_tree.specs.Cutting.{chars_of, IsLongest, Begins, IsCut, IsStuck}
-use Rattle.atl_tree.specs.Machine.{Cut, Machine, cut, machine, piece, cut_of, run, step, step_to, closed, fresh, finished, after as after_step, begin_of, next_of, ended}
+use Rattle.atl_tree.specs.Pieces.{Piece, IsPiece, IsPieceOf, IsDigits, IsMark}
+use Rattle.atl_tree.specs.Cutting.{chars_of, IsLongest, Begins, IsStuck}
+use Rattle.atl_tree.specs.Machine.{Cut, Machine, cut, machine, piece, cut_of, run, step_to, closed, fresh, finished, after as after_step, begin_of, next_of, ended}
 use Rattle.atl_tree.proofs.Simulation.{take-front}
 use Rattle.atl_tree.proofs.Walks.{walk, kind_of, walk-append, walk-dead, accepts, Shape, shaped, leads-digits, begin-dot, dot-mark, minus-mark, less-mark, greater-mark, number-point, IsClosed, closed-walk, closed-kind}
 
@@ -145,10 +144,10 @@ point-pieces : (text : List ℕ) (ps : List Piece) (w rest front : List ℕ) →
 point-pieces text ps w rest front d e h b =
     let spelt : w ++ rest ≡ front ++ (46 ∷ rest) = ap (λ l. l ++ rest) e ∙ append_assoc front (46 ∷ []) rest in
     let number : Begins text (ps ++ (piece (Some T.Number) front ∷ [])) (46 ∷ rest) =
-        begins-more text ps (piece (Some T.Number) front) (46 ∷ rest) (subst (Begins text ps) spelt b) (inl d)
-            (longest front (46 ∷ rest) (subst (λ t. Blocked t (46 ∷ rest)) (sym (leads-digits front d)) (blocked-number rest h))) in
+    begins-more text ps (piece (Some T.Number) front) (46 ∷ rest) (subst (Begins text ps) spelt b) (inl d)
+    (longest front (46 ∷ rest) (subst (λ t. Blocked t (46 ∷ rest)) (sym (leads-digits front d)) (blocked-number rest h))) in
     let both = begins-more text (ps ++ (piece (Some T.Number) front ∷ [])) (piece (Some T.Mark) (46 ∷ [])) rest number dot-mark
-            (longest (46 ∷ []) rest (subst (λ t. Blocked t rest) (sym begin-dot) (blocked (S.Done T.Mark) rest (done-ends rest)))) in
+    (longest (46 ∷ []) rest (subst (λ t. Blocked t rest) (sym begin-dot) (blocked (S.Done T.Mark) rest (done-ends rest)))) in
     subst (λ l. Begins text l rest) (append_assoc ps (piece (Some T.Number) front ∷ []) (piece (Some T.Mark) (46 ∷ []) ∷ [])) both
 
 module _ (text : List ℕ) (ps : List Piece) (w rest : List ℕ) (b : Begins text ps (w ++ rest)) where
@@ -167,7 +166,7 @@ module _ (text : List ℕ) (ps : List Piece) (w rest : List ℕ) (b : Begins tex
       let taken : take (length w - 1) w ≡ f.0 = ap (λ v. take (length v - 1) v) f.2 ∙ take-front f.0 46 in
       let same : piece (Some T.Number) (take (length w - 1) w) ∷ (piece (Some T.Mark) (46 ∷ []) ∷ []) ≡ qs = cc in
       subst (λ l. Begins text (ps ++ l) rest) (ap (λ v. piece (Some T.Number) v ∷ (piece (Some T.Mark) (46 ∷ []) ∷ [])) (sym taken) ∙ same)
-          (point-pieces text ps w rest f.0 f.1 f.2 h b)
+      (point-pieces text ps w rest f.0 f.1 f.2 h b)
   ends-so S.Fraction qs e f h q = one (Some T.Number) S.Fraction qs e h (inr f) q
   ends-so S.Quoted qs e f h q = absurd cc
   ends-so S.Words qs e f h q = absurd cc
@@ -227,19 +226,19 @@ module _ (text : List ℕ) where
   opened : (m : Machine) (rest : List ℕ) → Sound text m rest → Ends m.state rest → ended m.state m.seen ≡ None → Tells text (cut m.done Open)
   opened m rest s h q =
       let y = open-why m.seen rest m.state (shape-of m rest s) q s.alive in
-      record { rest = m.seen ++ rest; begins = s.begins; stuck = open-stuck m.seen rest m.state s.state h y.1; why = y.0; }
+      record { rest = m.seen ++ rest; begins = s.begins; stuck = open-stuck m.seen rest m.state s.state h y.1; why = y.0 }
 
   ended-all : (m : Machine) (rest : List ℕ) (qs : List Piece) → Sound text m rest → Ends m.state rest → ended m.state m.seen ≡ Some qs → Begins text (m.done ++ qs) rest
   ended-all m rest qs s h q = ends-so text m.done m.seen rest s.begins m.state qs s.state (shape-of m rest s) h q
 
   finishes : (m : Machine) → Sound text m [] → (o : Option (List Piece)) → ended m.state m.seen ≡ o → Tells text (finished m.done o)
   finishes m s None q = opened m [] s tt q
-  finishes m s (Some qs) q = record { rest = []; begins = ended-all m [] qs s tt q; stuck = stuck-end; why = refl; }
+  finishes m s (Some qs) q = record { rest = []; begins = ended-all m [] qs s tt q; stuck = stuck-end; why = refl }
 
   module _ (c : ℕ) (cs : List ℕ) (on : (u : Machine) → Sound text u cs → Tells text (run u cs)) where
     freshly : (ps : List Piece) → Begins text ps (c ∷ cs) → (n : State) → begin_of c ≡ n → Tells text (after_step (fresh ps c n) cs (λ u. run u cs))
-    freshly ps b S.Dead e = record { rest = c ∷ cs; begins = b; stuck = bad-stuck c cs e; why = (c, cs, refl, λ more. bad-stuck c more e); }
-    freshly ps b n e = on (machine ps n (c ∷ [])) (record { begins = b; state = e; alive = λ h. cc; })
+    freshly ps b S.Dead e = record { rest = c ∷ cs; begins = b; stuck = bad-stuck c cs e; why = (c, cs, refl, λ more. bad-stuck c more e) }
+    freshly ps b n e = on (machine ps n (c ∷ [])) (record { begins = b; state = e; alive = λ h. cc })
 
     closes : (m : Machine) → Sound text m (c ∷ cs) → next_of m.state c ≡ S.Dead → (o : Option (List Piece)) → ended m.state m.seen ≡ o → Tells text (after_step (closed m.done c o) cs (λ u. run u cs))
     closes m s h None q = opened m (c ∷ cs) s h q
@@ -248,14 +247,14 @@ module _ (text : List ℕ) where
     steps-to : (m : Machine) → Sound text m (c ∷ cs) → (n : State) → next_of m.state c ≡ n → Tells text (after_step (step_to m c n) cs (λ u. run u cs))
     steps-to m s S.Dead e = closes m s e (ended m.state m.seen) refl
     steps-to m s n e = on (machine m.done n (m.seen ++ (c ∷ []))) (record {
-        begins = subst (Begins text m.done) (sym (append_assoc m.seen (c ∷ []) cs)) s.begins;
-        state = walk-append S.Start m.seen (c ∷ []) ∙ ap (λ t. next_of t c) s.state ∙ e;
-        alive = λ h. cc;
-      })
+      begins = subst (Begins text m.done) (sym (append_assoc m.seen (c ∷ []) cs)) s.begins;
+      state = walk-append S.Start m.seen (c ∷ []) ∙ ap (λ t. next_of t c) s.state ∙ e;
+      alive = λ h. cc;
+    })
 
   runs : (m : Machine) (cs : List ℕ) → Sound text m cs → Tells text (run m cs)
   runs m [] s = finishes m s (ended m.state m.seen) refl
   runs m (c ∷ cs) s = steps-to c cs (λ u v. runs u cs v) m s (next_of m.state c) refl
 
   pub tells : Tells text (cut_of text)
-  tells = runs (machine [] S.Start []) text (record { begins = refl; state = refl; alive = λ h. cc; })
+  tells = runs (machine [] S.Start []) text (record { begins = refl; state = refl; alive = λ h. cc })

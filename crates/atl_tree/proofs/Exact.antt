@@ -1,5 +1,5 @@
 -- The laws of tokens.
-use Rattle.std.proofs.Common.{◌≡◌, ◌≢◌, ℕ, ◌+◌, cond, ◌||◌, ◌&&◌, ◌==◌, not, ◌⊎◌, Bool, true, false, List, [], ◌∷◌, ◌++◌, length, refl, inl, inr, sym, ap, subst, ◌∙◌, append_assoc, arith, Option, None, Some, Result, Ok, Err}
+use Rattle.std.proofs.Common.{◌≡◌, ℕ, cond, ◌||◌, ◌&&◌, not, ◌⊎◌, Bool, true, false, List, [], ◌∷◌, refl, inl, inr, sym, ap, subst, ◌∙◌, Option, None, Some, Ok, Err}
 use Rattle.std.proofs.lemmas.List.{append-nil}
 use Rattle.std.specs.Prelude.{codes}
 use Rattle.std.specs.Str.{bytes_eq}
@@ -10,15 +10,13 @@ use Rattle.atl_tree.specs.declared.token.TokenSort.{TokenSort}
 use Rattle.atl_tree.specs.declared.token.TokenSort.TheVariants as T
 use Rattle.atl_tree.specs.declared.token.LexRefusal.{LexRefusal}
 use Rattle.atl_tree.specs.declared.token.LexRefusal.TheVariants as R
-use Rattle.atl_tree.specs.declared.state.State.{State}
-use Rattle.atl_tree.specs.declared.state.State.TheVariants as S
 use Rattle.atl_tree.specs.declared.state.Stop.{Stop}
 use Rattle.atl_tree.specs.declared.state.Stop.TheVariants.{Over, Bad, Open}
-use Rattle.atl_tree.specs.Pieces.{Piece, IsPiece}
-use Rattle.atl_tree.specs.Cutting.{chars_of, Begins, IsCut, IsStuck}
-use Rattle.atl_tree.specs.Machine.{Cut, Machine, cut, machine, piece, cut_of, run, step, step_to, closed, fresh, finished, after as after_step, begin_of, next_of, ended}
-use Rattle.atl_tree.specs.Tokens.{place, after, tokens_from, first_fault, fault_of, or_else, leads_name, begins_arrow, is_wide, has_fraction, body_of, begin_byte, HasTokens, tokens_of, verdict, lexed}
-use Rattle.atl_tree.specs.Refusals.{front_tokens, BeginsNone, Fails, HasNoEnd, IsFault, Refuses, IsExact, IsBadFront}
+use Rattle.atl_tree.specs.Pieces.{Piece}
+use Rattle.atl_tree.specs.Cutting.{chars_of, Begins, IsStuck}
+use Rattle.atl_tree.specs.Machine.{piece, cut_of}
+use Rattle.atl_tree.specs.Tokens.{place, after, first_fault, fault_of, or_else, leads_name, begins_arrow, is_wide, has_fraction, body_of, HasTokens, tokens_of, verdict}
+use Rattle.atl_tree.specs.Refusals.{front_tokens, BeginsNone, Refuses, IsExact}
 use Rattle.atl_tree.proofs.Cuts.{Tells, Why, tells, unique, stuck-end, Begins-chars}
 
 -- ---- the kinds of the refusals of tokens
@@ -103,11 +101,8 @@ open-at Bad rest c cs w e n =
 open-at Open rest c cs w e n = refl
 
 module _ (text : List ℕ) where
-
   t : Tells (body_of text) (cut_of (body_of text))
   t = tells (body_of text)
-
-
 
   given : (ps : List Piece) (rest : List ℕ) → Begins (body_of text) ps rest → IsStuck rest → ((cut_of (body_of text)).pieces ≡ ps) × (t.rest ≡ rest)
   given ps rest b s = unique (body_of text) (cut_of (body_of text)).pieces ps t.rest rest t.begins b t.stuck s
@@ -176,7 +171,7 @@ module _ (text : List ℕ) where
   refuses-so e h = blamed e (verdict-err _ _ _ _ e (sym now ∙ h))
 
   pub exact : IsExact text
-  exact = record { reads = reads-so; tells = tells-so; refused = refused-so; refuses = refuses-so; }
+  exact = record { reads = reads-so; tells = tells-so; refused = refused-so; refuses = refuses-so }
 
   -- where the answer is a bad character the machine stopped at one
   pub stopped-bad : (p : Place) → tokens_of text ≡ Err (R.BadByte p) → ((cut_of (body_of text)).stop ≡ Bad) × (p ≡ after (place 1 1) (chars_of (cut_of (body_of text)).pieces))

@@ -1,28 +1,24 @@
 -- What the machine has read decides: a bad character is bad whatever follows it, and the pieces are slices in their order.
-use Rattle.std.proofs.Common.{◌≡◌, ◌≢◌, ℕ, ◌+◌, ◌-◌, cond, ◌≤◌, ◌<◌, ◌==◌, Bool, true, false, List, [], ◌∷◌, ◌++◌, length, refl, sym, ap, subst, ◌∙◌, append_assoc, arith, Option, None, Some, Result, Ok, Err}
+use Rattle.std.proofs.Common.{◌≡◌, ℕ, ◌+◌, cond, ◌≤◌, ◌==◌, Bool, true, false, List, [], ◌∷◌, ◌++◌, length, refl, sym, ap, subst, ◌∙◌, append_assoc, arith, Option, None, Some}
 use Rattle.std.specs.Str.{IsUtf8, encode_utf8_all, chars}
 use Rattle.std.specs.Char.{encode_utf8, len_utf8}
 use Rattle.std.proofs.lemmas.List.{append-nil, length-append}
 use Rattle.std.proofs.lemmas.Str.{encodes-append, encodes-chars, length-encode}
 use Rattle.std.proofs.lemmas.Bool.{eqb-true}
 use Rattle.atl_base.specs.declared.place.Place.{Place}
-use Rattle.atl_tree.specs.declared.token.Token.{Token}
 use Rattle.atl_tree.specs.declared.token.Tokens.{Tokens}
 use Rattle.atl_tree.specs.declared.token.TokenSort.{TokenSort}
-use Rattle.atl_tree.specs.declared.token.LexRefusal.{LexRefusal}
-use Rattle.atl_tree.specs.declared.token.LexRefusal.TheVariants as R
 use Rattle.atl_tree.specs.declared.state.State.{State}
 use Rattle.atl_tree.specs.declared.state.State.TheVariants as S
-use Rattle.atl_tree.specs.declared.state.Stop.{Stop}
-use Rattle.atl_tree.specs.declared.state.Stop.TheVariants.{Over, Bad, Open}
-use Rattle.atl_tree.specs.Pieces.{Piece, IsPiece}
-use Rattle.atl_tree.specs.Cutting.{chars_of, Begins, IsCut}
-use Rattle.atl_tree.specs.Machine.{Cut, Machine, cut, machine, piece, cut_of, run, step, step_to, closed, fresh, finished, after as after_step, Step, Goes, Stops, begin_of, next_of, ended}
-use Rattle.atl_tree.specs.Tokens.{place, after, tokens_from, token_of, first_fault, body_of, begin_byte, HasTokens, tokens_of}
-use Rattle.atl_tree.specs.Refusals.{Refuses, IsBadFront}
+use Rattle.atl_tree.specs.declared.state.Stop.TheVariants.{Over, Bad}
+use Rattle.atl_tree.specs.Pieces.{Piece}
+use Rattle.atl_tree.specs.Cutting.{chars_of}
+use Rattle.atl_tree.specs.Machine.{Machine, machine, cut_of, run, step, step_to, closed, fresh, finished, after as after_step, Step, Goes, Stops, begin_of, next_of, ended}
+use Rattle.atl_tree.specs.Tokens.{place, after, tokens_from, token_of, body_of, begin_byte, HasTokens}
+use Rattle.atl_tree.specs.Refusals.{IsBadFront}
 use Rattle.atl_tree.specs.Slices.{AreSlices}
 use Rattle.atl_tree.proofs.Simulation.{Fits, Fits-next, begin-point, begin-start, next-point, next-start, ended-chars, chars_of-append, slice_is}
-use Rattle.atl_tree.proofs.Cuts.{Tells, Why, tells, unique, stuck-end, Begins-chars}
+use Rattle.atl_tree.proofs.Cuts.{Tells, tells, unique, stuck-end, Begins-chars}
 use Rattle.atl_tree.proofs.Exact.{stopped-bad, over-at-end}
 
 -- ---- a bad character
@@ -37,9 +33,10 @@ StepReads m c (Stops k) = k.stop ≡ Bad → chars_of k.pieces ≡ read m
 
 step-fresh : (m : Machine) (c : ℕ) (qs : List Piece) → chars_of qs ≡ m.seen → (n : State) → begin_of c ≡ n → StepReads m c (fresh (m.done ++ qs) c n)
 step-fresh m c qs h S.Dead e = λ _. chars_of-append m.done qs ∙ ap (λ l. chars_of m.done ++ l) h
-step-fresh m c qs h n e =
-    (Fits-next n [] c (λ k. begin-start c (e ∙ k)) (λ k. absurd (begin-point c (e ∙ k))),
-     ap (λ l. l ++ (c ∷ [])) (chars_of-append m.done qs ∙ ap (λ l. chars_of m.done ++ l) h))
+step-fresh m c qs h n e = (
+  Fits-next n [] c (λ k. begin-start c (e ∙ k)) (λ k. absurd (begin-point c (e ∙ k))),
+  ap (λ l. l ++ (c ∷ [])) (chars_of-append m.done qs ∙ ap (λ l. chars_of m.done ++ l) h),
+)
 
 step-closed : (m : Machine) (c : ℕ) → Fits m.state m.seen → (o : Option (List Piece)) → ended m.state m.seen ≡ o → StepReads m c (closed m.done c o)
 step-closed m c f None q = λ h. absurd cc
@@ -75,14 +72,20 @@ bad-run m (c ∷ cs) f h = on (step m c) refl (step-reads m c f) (λ u g k. bad-
 
     on : (w : Step) → step m c ≡ w → StepReads m c w → ((u : Machine) → Fits u.state u.seen → (run u cs).stop ≡ Bad → BadAt u cs) → BadAt m (c ∷ cs)
     on (Stops k) e r rec = record {
-        front = []; bad = c; rest = cs; text = refl;
-        pieces = ap (λ z. chars_of z.pieces) (goes (Stops k) e cs) ∙ r (ap (λ z. z.stop) (sym (goes (Stops k) e cs)) ∙ h) ∙ sym (append-nil (read m));
-        others = λ more. goes (Stops k) e more ∙ sym (goes (Stops k) e cs);
-      }
+      front = [];
+      bad = c;
+      rest = cs;
+      text = refl;
+      pieces = ap (λ z. chars_of z.pieces) (goes (Stops k) e cs) ∙ r (ap (λ z. z.stop) (sym (goes (Stops k) e cs)) ∙ h) ∙ sym (append-nil (read m));
+      others = λ more. goes (Stops k) e more ∙ sym (goes (Stops k) e cs);
+    }
     on (Goes u) e r rec =
         let b = rec u r.0 (ap (λ z. z.stop) (sym (goes (Goes u) e cs)) ∙ h) in
         record {
-          front = c ∷ b.front; bad = b.bad; rest = b.rest; text = ap (λ l. c ∷ l) b.text;
+          front = c ∷ b.front;
+          bad = b.bad;
+          rest = b.rest;
+          text = ap (λ l. c ∷ l) b.text;
           pieces = ap (λ z. chars_of z.pieces) (goes (Goes u) e cs) ∙ b.pieces ∙ ap (λ l. l ++ b.front) r.1 ∙ append_assoc (read m) (c ∷ []) b.front;
           others = λ more. goes (Goes u) e (b.front ++ (b.bad ∷ more)) ∙ b.others more ∙ sym (goes (Goes u) e cs);
         }
@@ -90,14 +93,20 @@ bad-run m (c ∷ cs) f h = on (step m c) refl (step-reads m c f) (λ u g k. bad-
 pub bad-front : (text : List ℕ) → IsBadFront text
 bad-front text p h =
     let s = stopped-bad text p h in
-    let b = bad-run (machine [] S.Start []) (body_of text) refl s.0 in
-    (b.front, b.bad, b.rest, b.text, s.1 ∙ ap (after (place 1 1)) b.pieces, λ more ps k.
-        let other : Tells (b.front ++ (b.bad ∷ more)) (cut_of (b.front ++ (b.bad ∷ more))) = tells (b.front ++ (b.bad ∷ more)) in
-        let u = unique (b.front ++ (b.bad ∷ more)) (cut_of (b.front ++ (b.bad ∷ more))).pieces ps other.rest [] other.begins k other.stuck stuck-end in
-        let over : (cut_of (b.front ++ (b.bad ∷ more))).stop ≡ Over = over-at-end (cut_of (b.front ++ (b.bad ∷ more))).stop other.rest other.why u.1 in
-        let bad : (cut_of (b.front ++ (b.bad ∷ more))).stop ≡ Bad = ap (λ z. z.stop) (b.others more) ∙ s.0 in
-        let both : Over ≡ Bad = sym over ∙ bad in
-        cc)
+    let b = bad-run (machine [] S.Start []) (body_of text) refl s.0 in (
+      b.front,
+      b.bad,
+      b.rest,
+      b.text,
+      s.1 ∙ ap (after (place 1 1)) b.pieces,
+      λ more ps k.
+          let other : Tells (b.front ++ (b.bad ∷ more)) (cut_of (b.front ++ (b.bad ∷ more))) = tells (b.front ++ (b.bad ∷ more)) in
+          let u = unique (b.front ++ (b.bad ∷ more)) (cut_of (b.front ++ (b.bad ∷ more))).pieces ps other.rest [] other.begins k other.stuck stuck-end in
+          let over : (cut_of (b.front ++ (b.bad ∷ more))).stop ≡ Over = over-at-end (cut_of (b.front ++ (b.bad ∷ more))).stop other.rest other.why u.1 in
+          let bad : (cut_of (b.front ++ (b.bad ∷ more))).stop ≡ Bad = ap (λ z. z.stop) (b.others more) ∙ s.0 in
+          let both : Over ≡ Bad = sym over ∙ bad in
+          cc,
+    )
 
 -- ---- slices
 
@@ -105,7 +114,7 @@ slices-from : (text : List ℕ) (at low : ℕ) (p : Place) (ps : List Piece) (he
 slices-from text at low p [] head e h l = tt
 slices-from text at low p (q ∷ ps) head e h l =
     on q.sort (λ m k. slices-from text (at + length (encode_utf8_all q.chars)) m (after p q.chars) ps (head ++ encode_utf8_all q.chars)
-        (bytes ∙ sym (append_assoc head (encode_utf8_all q.chars) (encode_utf8_all (chars_of ps)))) next k)
+    (bytes ∙ sym (append_assoc head (encode_utf8_all q.chars) (encode_utf8_all (chars_of ps)))) next k)
   where
     bytes : text ≡ head ++ (encode_utf8_all q.chars ++ encode_utf8_all (chars_of ps))
     bytes = e ∙ ap (λ t. head ++ t) (encodes-append q.chars (chars_of ps))
@@ -119,9 +128,13 @@ slices-from text at low p (q ∷ ps) head e h l =
     on : (s : Option TokenSort) → ((m : ℕ) → m ≤ at + length (encode_utf8_all q.chars) → AreSlices text m (tokens_from (at + length (encode_utf8_all q.chars)) (after p q.chars) ps))
         → AreSlices text low (token_of s (encode_utf8_all q.chars) at p ++ tokens_from (at + length (encode_utf8_all q.chars)) (after p q.chars) ps)
     on None rec = rec low (omega arith)
-    on (Some s) rec =
-        (l, omega arith, within, sym (slice_is text head (encode_utf8_all q.chars) (encode_utf8_all (chars_of ps)) at (at + length (encode_utf8_all q.chars)) bytes h refl),
-         rec (at + length (encode_utf8_all q.chars)) (omega arith))
+    on (Some s) rec = (
+      l,
+      omega arith,
+      within,
+      sym (slice_is text head (encode_utf8_all q.chars) (encode_utf8_all (chars_of ps)) at (at + length (encode_utf8_all q.chars)) bytes h refl),
+      rec (at + length (encode_utf8_all q.chars)) (omega arith),
+    )
 
 -- the bytes of the byte order mark, where there is one
 mark-bytes : (cs : List ℕ) → (head : List ℕ) × (encode_utf8_all cs ≡ head ++ encode_utf8_all (body_of cs)) × (length head ≡ begin_byte cs)

@@ -1,27 +1,24 @@
 -- The scanner, over bytes and places, does what the machine does over characters.
-use Rattle.std.proofs.Common.{◌≡◌, ◌≢◌, ℕ, zero, suc, ◌+◌, ◌-◌, cond, ◌<◌, ◌≤◌, ◌||◌, ◌==◌, ◌⊎◌, Bool, true, false, List, [], ◌∷◌, ◌++◌, length, take, drop, get_or, refl, inl, inr, sym, ap, subst, ◌∙◌, append_assoc, arith, Option, None, Some, eqb-true, slice_range}
+use Rattle.std.proofs.Common.{◌≡◌, ℕ, suc, ◌+◌, ◌-◌, cond, ◌<◌, ◌≤◌, ◌||◌, ◌==◌, Bool, true, false, List, [], ◌∷◌, ◌++◌, length, take, drop, get_or, refl, sym, ap, subst, ◌∙◌, append_assoc, arith, Option, None, Some, eqb-true, slice_range}
 use Rattle.std.specs.Str.{IsUtf8, encode_utf8_all, IsCharBoundary, chars}
 use Rattle.std.specs.Char.{encode_utf8, len_utf8}
-use Rattle.std.specs.List.{flat_map}
 use Rattle.std.proofs.lemmas.List.{append-nil, length-append, length-take-le, take-append-drop, take_at, drop_at, get_or_at}
-use Rattle.std.proofs.lemmas.Str.{IsUtf8-past_char, IsUtf8-drop, encodes-append, length-encode, len_utf8_bounds, length-le-encodes, IsCharBoundary-past_char, IsCharBoundary-before_ascii, IsCharBoundary-end, chars_from_encodes}
+use Rattle.std.proofs.lemmas.Str.{IsUtf8-past_char, IsUtf8-drop, encodes-append, length-encode, length-le-encodes, IsCharBoundary-past_char, IsCharBoundary-before_ascii, chars_from_encodes}
 use Rattle.atl_base.specs.declared.place.Place.{Place}
 use Rattle.atl_tree.specs.declared.token.Token.{Token}
 use Rattle.atl_tree.specs.declared.token.TokenSort.{TokenSort}
 use Rattle.atl_tree.specs.declared.token.TokenSort.TheVariants as T
 use Rattle.atl_tree.specs.declared.state.State.{State}
 use Rattle.atl_tree.specs.declared.state.State.TheVariants as S
-use Rattle.atl_tree.specs.declared.state.Stop.{Stop}
 use Rattle.atl_tree.specs.declared.state.Stop.TheVariants.{Over, Bad, Open}
 use Rattle.atl_tree.specs.declared.cursor.Cursor.{Cursor}
-use Rattle.atl_tree.specs.declared.cursor.Scanned.{Scanned}
 use Rattle.atl_tree.specs.declared.cursor.Move.{Move}
 use Rattle.atl_tree.specs.declared.cursor.Move.TheVariants.{Goes, Stops}
 use Rattle.atl_tree.specs.Pieces.{Piece, is_letter, is_digit, is_gap, is_single, is_escape, is_in_line, is_in_quotes, is_in_words}
 use Rattle.atl_tree.specs.Cutting.{chars_of}
-use Rattle.atl_tree.specs.Machine.{Cut, Machine, cut, machine, piece, cut_of, run, step, step_to, closed, fresh, finished, after as after_step, begin_of, next_of, ended}
+use Rattle.atl_tree.specs.Machine.{Machine, machine, piece, cut_of, run, step_to, closed, fresh, finished, after as after_step, begin_of, next_of, ended}
 use Rattle.atl_tree.specs.Tokens.{place, past, after, token, token_of, tokens_from}
-use Rattle.atl_tree.specs.Scanner.{slice_token, ended_at, Closes, IsReady, cursor, Moved, moved, fresh_at, closed_at, going_at, step_at, scanned, scan_of}
+use Rattle.atl_tree.specs.Scanner.{slice_token, ended_at, Closes, IsReady, cursor, Moved, fresh_at, closed_at, going_at, step_at, scanned, scan_of}
 
 -- ---- lists
 
@@ -58,9 +55,10 @@ after-line p (c ∷ cs) = elim (c == 10) as (λ b. (after (cond b (place (p.line
 
 pub after-column : (p : Place) (cs : List ℕ) → 0 < p.column → (0 < (after p cs).column) × ((after p cs).column ≤ p.column + length cs)
 after-column p [] h = (h, omega arith)
-after-column p (c ∷ cs) h = elim (c == 10) as (λ b. (0 < (after (cond b (place (p.line + 1) 1) (place p.line (p.column + 1))) cs).column) × ((after (cond b (place (p.line + 1) 1) (place p.line (p.column + 1))) cs).column ≤ p.column + suc (length cs)))
-    [ true ↦ (let r = after-column (place (p.line + 1) 1) cs (omega arith) in (r.0, omega (arith, r.1)))
-    | false ↦ (let r = after-column (place p.line (p.column + 1)) cs (omega arith) in (r.0, omega (arith, r.1))) ]
+after-column p (c ∷ cs) h = elim (c == 10) as (λ b. (0 < (after (cond b (place (p.line + 1) 1) (place p.line (p.column + 1))) cs).column) × ((after (cond b (place (p.line + 1) 1) (place p.line (p.column + 1))) cs).column ≤ p.column + suc (length cs))) [
+  | true ↦ (let r = after-column (place (p.line + 1) 1) cs (omega arith) in (r.0, omega (arith, r.1)))
+  | false ↦ (let r = after-column (place p.line (p.column + 1)) cs (omega arith) in (r.0, omega (arith, r.1)))
+]
 
 -- ---- what has been read of the open piece, as far as the tokens want to know it
 
@@ -147,7 +145,7 @@ ended-chars S.Plain w qs f e = one-of _ w qs e
 ended-chars S.Number w qs f e = one-of _ w qs e
 ended-chars S.Point w qs f e =
     all-of w (piece (Some T.Number) (take (length w - 1) w) ∷ (piece (Some T.Mark) (46 ∷ []) ∷ [])) qs
-        (ap (λ v. take (length v - 1) v ++ (46 ∷ [])) f.1 ∙ ap (λ v. v ++ (46 ∷ [])) (take-front f.0 46) ∙ sym f.1) e
+    (ap (λ v. take (length v - 1) v ++ (46 ∷ [])) f.1 ∙ ap (λ v. v ++ (46 ∷ [])) (take-front f.0 46) ∙ sym f.1) e
 ended-chars S.Fraction w qs f e = one-of _ w qs e
 ended-chars S.Quoted w qs f e = absurd cc
 ended-chars S.Words w qs f e = absurd cc
@@ -205,11 +203,11 @@ pointed text k front r =
     let bytes : text ≡ r.head ++ (encode_utf8_all front ++ (46 ∷ r.rest)) = r.bytes ∙ ap (λ l. r.head ++ (l ++ r.rest)) spelt ∙ ap (λ l. r.head ++ l) (append_assoc (encode_utf8_all front) (46 ∷ []) r.rest) in
     let first : slice_range text k.begin (k.at - 1) ≡ encode_utf8_all front = slice_is text r.head (encode_utf8_all front) (46 ∷ r.rest) k.begin (k.at - 1) bytes r.begin middle in
     let second : slice_range text (k.at - 1) k.at ≡ 46 ∷ [] =
-        slice_is text (r.head ++ encode_utf8_all front) (46 ∷ []) r.rest (k.at - 1) k.at (bytes ∙ sym (append_assoc r.head (encode_utf8_all front) (46 ∷ r.rest)))
-            (length-append r.head (encode_utf8_all front) ∙ ap (λ n. n + length (encode_utf8_all front)) r.begin ∙ sym middle) (omega (arith, r.at, size, middle)) in
+    slice_is text (r.head ++ encode_utf8_all front) (46 ∷ []) r.rest (k.at - 1) k.at (bytes ∙ sym (append_assoc r.head (encode_utf8_all front) (46 ∷ r.rest)))
+    (length-append r.head (encode_utf8_all front) ∙ ap (λ n. n + length (encode_utf8_all front)) r.begin ∙ sym middle) (omega (arith, r.at, size, middle)) in
     let there : k.place ≡ past (after k.start front) 46 = r.place ∙ after-append k.start front (46 ∷ []) in
     let back : place k.place.line (k.place.column - 1) ≡ after k.start front =
-        ap (λ p. place p.line (p.column - 1)) there ∙ ap (λ n. place (after k.start front).line n) (omega arith) in
+    ap (λ p. place p.line (p.column - 1)) there ∙ ap (λ n. place (after k.start front).line n) (omega arith) in
     let ends : k.at ≡ k.begin + length (encode_utf8_all front) + 1 = omega (arith, r.at, size) in
     ap (λ t. Some (token T.Number t k.begin (k.at - 1) k.start ∷ (slice_token T.Mark text (k.at - 1) k.at (place k.place.line (k.place.column - 1)) ∷ []))) first
     ∙ ap (λ t. Some (token T.Number (encode_utf8_all front) k.begin (k.at - 1) k.start ∷ (token T.Mark t (k.at - 1) k.at (place k.place.line (k.place.column - 1)) ∷ []))) second
@@ -266,7 +264,7 @@ abbrev pub Sim : List ℕ → ℕ → List ℕ → Moved → Type 0
 Sim text from rest m = SimTo text from rest m.list m.to
 
 pub reads : (text : List ℕ) (from : ℕ) (list : List Token) (k : Cursor) (rest : List ℕ) → (a : Agrees text from list k rest) → Reads text k a.seen
-reads text from list k rest a = record { head = a.head; rest = rest; bytes = a.bytes; begin = a.begin; at = a.at; place = a.stands; }
+reads text from list k rest a = record { head = a.head; rest = rest; bytes = a.bytes; begin = a.begin; at = a.at; place = a.stands }
 
 -- where the bytes that are left begin
 pub rest-at : (text : List ℕ) (from : ℕ) (list : List Token) (k : Cursor) (rest : List ℕ) → (a : Agrees text from list k rest) → (k.at ≤ length text) × (drop k.at text ≡ rest)
@@ -299,17 +297,22 @@ module _ (text : List ℕ) (from : ℕ) (list : List Token) (k : Cursor) (c : �
   go : (n : State) → next_of k.state c ≡ n → ((cs : List ℕ) → after_step (step_to (machine a.done k.state a.seen) c n) cs (λ u. run u cs) ≡ run (machine a.done n (a.seen ++ (c ∷ []))) cs)
       → Agrees text from list (cursor n k.begin k.start (k.at + len_utf8 c) (past k.place c)) rest
   go n e alive = record {
-      done = a.done; seen = a.seen ++ (c ∷ []); head = a.head;
-      bytes = a.bytes ∙ ap (λ l. a.head ++ l) (sym (append_assoc (encode_utf8_all a.seen) (encode_utf8 c) rest) ∙ ap (λ l. l ++ rest) (sym one-more));
-      begin = a.begin; before = a.before;
-      at = omega (arith, a.at, ap length one-more, length-append (encode_utf8_all a.seen) (encode_utf8 c), length-encode c);
-      start = a.start;
-      stands = ap (λ p. past p c) a.stands ∙ sym (after-append k.start a.seen (c ∷ []));
-      list_is = a.list_is;
-      fits = Fits-next n a.seen c (λ h. next-start k.state c (e ∙ h)) (λ h. next-point k.state c (e ∙ h));
-      begins = a.begins; ends = ends-next; utf8 = utf8-rest;
-      runs = λ cs h. sym (alive cs) ∙ runs-to n e cs h;
-    }
+    done = a.done;
+    seen = a.seen ++ (c ∷ []);
+    head = a.head;
+    bytes = a.bytes ∙ ap (λ l. a.head ++ l) (sym (append_assoc (encode_utf8_all a.seen) (encode_utf8 c) rest) ∙ ap (λ l. l ++ rest) (sym one-more));
+    begin = a.begin;
+    before = a.before;
+    at = omega (arith, a.at, ap length one-more, length-append (encode_utf8_all a.seen) (encode_utf8 c), length-encode c);
+    start = a.start;
+    stands = ap (λ p. past p c) a.stands ∙ sym (after-append k.start a.seen (c ∷ []));
+    list_is = a.list_is;
+    fits = Fits-next n a.seen c (λ h. next-start k.state c (e ∙ h)) (λ h. next-point k.state c (e ∙ h));
+    begins = a.begins;
+    ends = ends-next;
+    utf8 = utf8-rest;
+    runs = λ cs h. sym (alive cs) ∙ runs-to n e cs h;
+  }
 
   -- the pieces of the open one are added
   module _ (qs : List Piece) (d : next_of k.state c ≡ S.Dead) (q : ended k.state a.seen ≡ Some qs) where
@@ -332,23 +335,27 @@ module _ (text : List ℕ) (from : ℕ) (list : List Token) (k : Cursor) (c : �
     runs-fresh : (n : State) → begin_of c ≡ n → (cs : List ℕ) → encode_utf8_all cs ≡ rest → after_step (fresh (a.done ++ qs) c n) cs (λ u. run u cs) ≡ cut_of (chars (drop from text))
     runs-fresh n e cs h =
         subst (λ t. after_step (fresh (a.done ++ qs) c t) cs (λ u. run u cs) ≡ cut_of (chars (drop from text))) e
-            (subst (λ o. after_step (closed a.done c o) cs (λ u. run u cs) ≡ cut_of (chars (drop from text))) q (runs-to S.Dead d cs h))
+        (subst (λ o. after_step (closed a.done c o) cs (λ u. run u cs) ≡ cut_of (chars (drop from text))) q (runs-to S.Dead d cs h))
 
     begun : (n : State) → begin_of c ≡ n → ((cs : List ℕ) → after_step (fresh (a.done ++ qs) c n) cs (λ u. run u cs) ≡ run (machine (a.done ++ qs) n (c ∷ [])) cs)
         → Agrees text from (list ++ tokens_from k.begin k.start qs) (cursor n k.at k.place (k.at + len_utf8 c) (past k.place c)) rest
     begun n e alive = record {
-        done = a.done ++ qs; seen = c ∷ []; head = a.head ++ encode_utf8_all a.seen;
-        bytes = a.bytes ∙ sym (append_assoc a.head (encode_utf8_all a.seen) (encode_utf8 c ++ rest)) ∙ ap (λ l. (a.head ++ encode_utf8_all a.seen) ++ (l ++ rest)) (sym (append-nil (encode_utf8 c)));
-        begin = length-append a.head (encode_utf8_all a.seen) ∙ ap (λ m. m + length (encode_utf8_all a.seen)) a.begin ∙ sym a.at;
-        before = at-all;
-        at = ap (λ l. k.at + l) (sym (length-encode c) ∙ ap length (sym (append-nil (encode_utf8 c))));
-        start = place-all;
-        stands = refl;
-        list_is = list-all;
-        fits = Fits-next n [] c (λ h. begin-start c (e ∙ h)) (λ h. absurd (begin-point c (e ∙ h)));
-        begins = a.ends; ends = ends-next; utf8 = utf8-rest;
-        runs = λ cs h. sym (alive cs) ∙ runs-fresh n e cs h;
-      }
+      done = a.done ++ qs;
+      seen = c ∷ [];
+      head = a.head ++ encode_utf8_all a.seen;
+      bytes = a.bytes ∙ sym (append_assoc a.head (encode_utf8_all a.seen) (encode_utf8 c ++ rest)) ∙ ap (λ l. (a.head ++ encode_utf8_all a.seen) ++ (l ++ rest)) (sym (append-nil (encode_utf8 c)));
+      begin = length-append a.head (encode_utf8_all a.seen) ∙ ap (λ m. m + length (encode_utf8_all a.seen)) a.begin ∙ sym a.at;
+      before = at-all;
+      at = ap (λ l. k.at + l) (sym (length-encode c) ∙ ap length (sym (append-nil (encode_utf8 c))));
+      start = place-all;
+      stands = refl;
+      list_is = list-all;
+      fits = Fits-next n [] c (λ h. begin-start c (e ∙ h)) (λ h. absurd (begin-point c (e ∙ h)));
+      begins = a.ends;
+      ends = ends-next;
+      utf8 = utf8-rest;
+      runs = λ cs h. sym (alive cs) ∙ runs-fresh n e cs h;
+    }
 
     sim-fresh : (n : State) → begin_of c ≡ n → SimTo text from rest (list ++ tokens_from k.begin k.start qs) (fresh_at k c n)
     sim-fresh S.Dead e =
@@ -365,7 +372,7 @@ module _ (text : List ℕ) (from : ℕ) (list : List Token) (k : Cursor) (c : �
   sim-to : (n : State) → next_of k.state c ≡ n → Sim text from rest (going_at text list k c n)
   sim-to S.Dead e =
       subst (λ o. Sim text from rest (closed_at list k c o)) (sym (ended-agrees text k k.state a.seen a.fits (reads text from list k (encode_utf8 c ++ rest) a)))
-          (sim-closed (ended k.state a.seen) e refl)
+      (sim-closed (ended k.state a.seen) e refl)
   sim-to n e = go n e (λ cs. refl)
 
   pub simulates : Sim text from rest (step_at text list k c)
@@ -376,9 +383,11 @@ module _ (text : List ℕ) (from : ℕ) (list : List Token) (k : Cursor) (c : �
 pub ready : (text : List ℕ) (from : ℕ) (list : List Token) (k : Cursor) (rest : List ℕ) → Agrees text from list k rest → IsReady text k
 unfolding encode_utf8
 ready text from list k rest a = record {
-    order = omega (arith, a.at); begins = a.begins; ends = a.ends;
-    point = λ h. pointed-ready (subst (λ s. Fits s a.seen) h a.fits);
-  }
+  order = omega (arith, a.at);
+  begins = a.begins;
+  ends = a.ends;
+  point = λ h. pointed-ready (subst (λ s. Fits s a.seen) h a.fits);
+}
   where
     pointed-ready : (front : List ℕ) × (a.seen ≡ front ++ (46 ∷ [])) → (k.begin < k.at) × IsCharBoundary text (k.at - 1) × (0 < k.place.column)
     pointed-ready f =
@@ -386,23 +395,34 @@ ready text from list k rest a = record {
         let size : length (encode_utf8_all a.seen) ≡ length (encode_utf8_all f.0) + 1 = ap length spelt ∙ length-append (encode_utf8_all f.0) (46 ∷ []) in
         let front : List ℕ = a.head ++ encode_utf8_all f.0 in
         let bytes : text ≡ front ++ (46 ∷ rest) =
-            a.bytes ∙ ap (λ l. a.head ++ (l ++ rest)) spelt ∙ ap (λ l. a.head ++ l) (append_assoc (encode_utf8_all f.0) (46 ∷ []) rest) ∙ sym (append_assoc a.head (encode_utf8_all f.0) (46 ∷ rest)) in
+        a.bytes ∙ ap (λ l. a.head ++ (l ++ rest)) spelt ∙ ap (λ l. a.head ++ l) (append_assoc (encode_utf8_all f.0) (46 ∷ []) rest) ∙ sym (append_assoc a.head (encode_utf8_all f.0) (46 ∷ rest)) in
         let spot : length front ≡ k.at - 1 = omega (arith, length-append a.head (encode_utf8_all f.0), a.begin, a.at, size) in
         let within : k.at - 1 < length text = omega (arith, ap length bytes, length-append front (46 ∷ rest), spot) in
-        let byte : get_or text (k.at - 1) 0 ≡ 46 = ap (λ t. get_or t (k.at - 1) 0) bytes ∙ get_or_at front 46 rest 0 (k.at - 1) spot in
-        (omega (arith, a.at, size), IsCharBoundary-before_ascii text (k.at - 1) within (omega (arith, byte)),
-         subst (λ p. 0 < p.column) (sym (a.stands ∙ ap (λ p. after p a.seen) a.start))
-             (after-column (after (place 1 1) (chars_of a.done)) a.seen (after-column (place 1 1) (chars_of a.done) (omega arith)).0).0)
+        let byte : get_or text (k.at - 1) 0 ≡ 46 = ap (λ t. get_or t (k.at - 1) 0) bytes ∙ get_or_at front 46 rest 0 (k.at - 1) spot in (
+          omega (arith, a.at, size),
+          IsCharBoundary-before_ascii text (k.at - 1) within (omega (arith, byte)),
+          subst (λ p. 0 < p.column) (sym (a.stands ∙ ap (λ p. after p a.seen) a.start))
+              (after-column (after (place 1 1) (chars_of a.done)) a.seen (after-column (place 1 1) (chars_of a.done) (omega arith)).0).0,
+        )
 
 pub begins-scan : (text : List ℕ) (from : ℕ) → IsUtf8 text → IsCharBoundary text from → Agrees text from [] (cursor S.Start from (place 1 1) from (place 1 1)) (drop from text)
 begins-scan text from u b = record {
-    done = []; seen = []; head = take from text;
-    bytes = sym (take-append-drop from text);
-    begin = length-take-le from text b.0;
-    before = omega arith; at = omega arith; start = refl; stands = refl; list_is = refl; fits = refl;
-    begins = b; ends = b; utf8 = IsUtf8-drop text from u b;
-    runs = λ cs h. ap cut_of (chars_from_encodes cs (drop from text) (IsUtf8-drop text from u b) h);
-  }
+  done = [];
+  seen = [];
+  head = take from text;
+  bytes = sym (take-append-drop from text);
+  begin = length-take-le from text b.0;
+  before = omega arith;
+  at = omega arith;
+  start = refl;
+  stands = refl;
+  list_is = refl;
+  fits = refl;
+  begins = b;
+  ends = b;
+  utf8 = IsUtf8-drop text from u b;
+  runs = λ cs h. ap cut_of (chars_from_encodes cs (drop from text) (IsUtf8-drop text from u b) h);
+}
 
 pub ends-scan : (text : List ℕ) (from : ℕ) (list new : List Token) (k : Cursor) (ends : Bool) → Agrees text from list k [] → Closes list new ends (ended_at text k k.state)
     → scanned new (cond ends Over Open) (cond ends k.place k.start) ≡ scan_of from (cut_of (chars (drop from text)))
@@ -420,12 +440,12 @@ ends-scan text from list new k ends a h = ends-with ends (ended k.state a.seen) 
         let same : opened k qs ≡ h.0 = let e : Some (opened k qs) ≡ Some h.0 = h.1 in cc in
         let all : chars_of (a.done ++ qs) ≡ chars_of a.done ++ a.seen = chars_of-append a.done qs ∙ ap (λ l. chars_of a.done ++ l) (ended-chars k.state a.seen qs a.fits q) in
         let lists : new ≡ tokens_from from (place 1 1) (a.done ++ qs) =
-            h.2 ∙ ap (λ l. list ++ l) (sym same) ∙ ap (λ l. l ++ tokens_from k.begin k.start qs) a.list_is
-            ∙ ap (λ n. tokens_from from (place 1 1) a.done ++ tokens_from n k.start qs) a.before
-            ∙ ap (λ p. tokens_from from (place 1 1) a.done ++ tokens_from (from + length (encode_utf8_all (chars_of a.done))) p qs) a.start
-            ∙ sym (tokens_from-append from (place 1 1) a.done qs) in
+        h.2 ∙ ap (λ l. list ++ l) (sym same) ∙ ap (λ l. l ++ tokens_from k.begin k.start qs) a.list_is
+        ∙ ap (λ n. tokens_from from (place 1 1) a.done ++ tokens_from n k.start qs) a.before
+        ∙ ap (λ p. tokens_from from (place 1 1) a.done ++ tokens_from (from + length (encode_utf8_all (chars_of a.done))) p qs) a.start
+        ∙ sym (tokens_from-append from (place 1 1) a.done qs) in
         let end : k.place ≡ after (place 1 1) (chars_of (a.done ++ qs)) =
-            a.stands ∙ ap (λ p. after p a.seen) a.start ∙ sym (after-append (place 1 1) (chars_of a.done) a.seen) ∙ ap (after (place 1 1)) (sym all) in
+        a.stands ∙ ap (λ p. after p a.seen) a.start ∙ sym (after-append (place 1 1) (chars_of a.done) a.seen) ∙ ap (after (place 1 1)) (sym all) in
         ap (λ l. scanned l Over k.place) lists ∙ ap (λ p. scanned (tokens_from from (place 1 1) (a.done ++ qs)) Over p) end ∙ ap (scan_of from) (whole-run (Some qs) q)
     ends-with false (Some qs) q h = absurd (let e : Some (opened k qs) ≡ None = h.0 in cc)
 
@@ -440,7 +460,8 @@ small text from list k rest a =
     let l1 = after-line (place 1 1) (chars_of a.done) in
     let l2 = after-line (after (place 1 1) (chars_of a.done)) a.seen in
     let c1 = after-column (place 1 1) (chars_of a.done) (omega arith) in
-    let c2 = after-column (after (place 1 1) (chars_of a.done)) a.seen c1.0 in
-    (size,
-     omega (arith, size, ap (λ p. p.line) all, l1, l2, length-le-encodes (chars_of a.done), length-le-encodes a.seen, a.at, a.before),
-     omega (arith, size, ap (λ p. p.column) all, c1.1, c2.1, length-le-encodes (chars_of a.done), length-le-encodes a.seen, a.at, a.before))
+    let c2 = after-column (after (place 1 1) (chars_of a.done)) a.seen c1.0 in (
+      size,
+      omega (arith, size, ap (λ p. p.line) all, l1, l2, length-le-encodes (chars_of a.done), length-le-encodes a.seen, a.at, a.before),
+      omega (arith, size, ap (λ p. p.column) all, c1.1, c2.1, length-le-encodes (chars_of a.done), length-le-encodes a.seen, a.at, a.before),
+    )

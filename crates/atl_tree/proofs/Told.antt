@@ -1,14 +1,14 @@
 -- From the scanner's answer to the tokens of a text: the byte order mark, and the verdict.
-use Rattle.std.proofs.Common.{◌≡◌, ℕ, ◌+◌, cond, ◌<◌, ◌≤◌, ◌==◌, ◌&&◌, Bool, true, false, List, [], ◌∷◌, ◌++◌, length, drop, refl, sym, ap, subst, ◌∙◌, arith, Option, None, Some, Result, Ok, Err, eqb-true}
+use Rattle.std.proofs.Common.{◌≡◌, ℕ, ◌+◌, cond, ◌==◌, Bool, true, false, List, [], ◌∷◌, drop, refl, sym, ap, subst, ◌∙◌, arith, Result, Err, eqb-true}
 use Rattle.std.specs.Str.{IsUtf8, encode_utf8_all, all_scalars, IsCharBoundary, chars}
-use Rattle.std.specs.Char.{encode_utf8, len_utf8}
+use Rattle.std.specs.Char.{len_utf8}
 use Rattle.std.proofs.lemmas.Bool.{and_parts}
 use Rattle.std.proofs.lemmas.Str.{chars-encodes, chars_from_encodes, IsCharBoundary-start, IsCharBoundary-past_char, drop_past_char}
 use Rattle.atl_tree.specs.declared.token.Tokens.{Tokens}
 use Rattle.atl_tree.specs.declared.token.LexRefusal.{LexRefusal}
 use Rattle.atl_tree.specs.declared.token.LexRefusal.TheVariants as R
 use Rattle.atl_tree.specs.declared.cursor.Scanned.{Scanned}
-use Rattle.atl_tree.specs.Machine.{Cut, cut_of}
+use Rattle.atl_tree.specs.Machine.{cut_of}
 use Rattle.atl_tree.specs.Tokens.{body_of, begin_byte, first_fault, verdict, lexed, tokens_of, Fails}
 use Rattle.atl_tree.specs.Scanner.{scan_of}
 
@@ -20,10 +20,11 @@ marked-on : (c : ℕ) (cs : List ℕ) (b : Bool) → all_scalars (c ∷ cs) ≡ 
 marked-on c cs true s e =
     let is : c ≡ 0xFEFF = eqb-true c 0xFEFF e in
     let u : IsUtf8 (encode_utf8_all (c ∷ cs)) = (c ∷ cs, (s, refl)) in
-    let n : 0 + len_utf8 c ≡ 3 = ap (λ d. 0 + len_utf8 d) is in
-    (subst (IsCharBoundary (encode_utf8_all (c ∷ cs))) n (IsCharBoundary-past_char (encode_utf8_all (c ∷ cs)) (encode_utf8_all cs) 0 c (omega arith) u refl),
-     ap (λ k. chars (drop k (encode_utf8_all (c ∷ cs)))) (sym n) ∙ ap chars (drop_past_char (encode_utf8_all (c ∷ cs)) (encode_utf8_all cs) 0 c refl)
-         ∙ chars-encodes cs (and_parts _ _ s).1)
+    let n : 0 + len_utf8 c ≡ 3 = ap (λ d. 0 + len_utf8 d) is in (
+      subst (IsCharBoundary (encode_utf8_all (c ∷ cs))) n (IsCharBoundary-past_char (encode_utf8_all (c ∷ cs)) (encode_utf8_all cs) 0 c (omega arith) u refl),
+      ap (λ k. chars (drop k (encode_utf8_all (c ∷ cs)))) (sym n) ∙ ap chars (drop_past_char (encode_utf8_all (c ∷ cs)) (encode_utf8_all cs) 0 c refl)
+          ∙ chars-encodes cs (and_parts _ _ s).1,
+    )
 marked-on c cs false s e = (IsCharBoundary-start (encode_utf8_all (c ∷ cs)) (c ∷ cs, (s, refl)), chars-encodes (c ∷ cs) s)
 
 marked : (cs : List ℕ) → all_scalars cs ≡ true → Marked (encode_utf8_all cs) (begin_byte cs) (body_of cs)

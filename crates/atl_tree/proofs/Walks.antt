@@ -1,8 +1,7 @@
 -- The states that characters lead to, and the forms of the pieces: each form leads to its state, and each state tells its form.
-use Rattle.std.proofs.Common.{◌≡◌, ◌≢◌, ℕ, ◌+◌, cond, ◌<◌, ◌≤◌, ◌||◌, ◌&&◌, ◌==◌, ◌⊎◌, Bool, true, false, not, List, [], ◌∷◌, ◌++◌, length, refl, inl, inr, sym, ap, subst, ◌∙◌, append_assoc, arith, Option, None, Some, eqb-true}
+use Rattle.std.proofs.Common.{◌≡◌, ℕ, cond, ◌||◌, ◌&&◌, ◌==◌, Bool, true, false, List, [], ◌∷◌, ◌++◌, refl, inl, inr, sym, ap, subst, ◌∙◌, append_assoc, arith, Option, None, Some, eqb-true}
 use Rattle.std.specs.List.{list_all, flat_map}
-use Rattle.std.specs.Int.{is_in_range}
-use Rattle.std.proofs.lemmas.Bool.{and_parts, and_from, or_cases, not-true}
+use Rattle.std.proofs.lemmas.Bool.{and_parts, and_from, or_cases}
 use Rattle.std.proofs.lemmas.Bool.Decides.{nat_tests}
 use Rattle.std.proofs.lemmas.List.{append-nil}
 use Rattle.std.proofs.lemmas.List.Folds.{list_all-append}
@@ -11,7 +10,7 @@ use Rattle.atl_tree.specs.declared.token.TokenSort.{TokenSort}
 use Rattle.atl_tree.specs.declared.token.TokenSort.TheVariants as T
 use Rattle.atl_tree.specs.declared.state.State.{State}
 use Rattle.atl_tree.specs.declared.state.State.TheVariants as S
-use Rattle.atl_tree.specs.Pieces.{is_letter, is_digit, is_gap, is_single, is_escape, is_in_line, is_in_quotes, is_in_words, IsPlain, IsDigits, IsNumber, IsQuoted, Sign, Itself, Escaped, is_sign, spelling, IsWords, IsMark, IsToken, IsGap, Piece, IsPieceOf}
+use Rattle.atl_tree.specs.Pieces.{is_letter, is_digit, is_gap, is_single, is_escape, is_in_line, is_in_quotes, is_in_words, IsPlain, IsDigits, IsNumber, IsQuoted, Sign, Itself, Escaped, is_sign, spelling, IsWords, IsMark, IsToken, IsGap, IsPieceOf}
 use Rattle.atl_tree.specs.Machine.{begin_of, next_of}
 
 abbrev pub walk : State → List ℕ → State
@@ -147,7 +146,7 @@ unfolding begin_of is_letter is_digit is_gap is_single
 begin-single c =
     let P : ℕ → Type 0 = λ n. begin_of n ≡ S.Done T.Mark in
     named P _ c 47 (named P _ c 35 (named P _ c 124 (named P _ c 46 (named P _ c 42 (named P _ c 43 (named P _ c 61 (named P _ c 33 (named P _ c 125 (named P _ c 123
-        (named P _ c 41 (named P _ c 40 (named P _ c 44 (named P _ c 58 (only P c 59 refl) refl) refl) refl) refl) refl) refl) refl) refl) refl) refl) refl) refl) refl) refl
+    (named P _ c 41 (named P _ c 40 (named P _ c 44 (named P _ c 58 (only P c 59 refl) refl) refl) refl) refl) refl) refl) refl) refl) refl) refl) refl) refl) refl) refl
 
 -- the point
 pub begin-dot : begin_of 46 ≡ S.Done T.Mark
@@ -195,12 +194,12 @@ leads-two : (c d : ℕ) → IsMark (c ∷ d ∷ []) → IsMarkState (next_of (be
 leads-two c d h =
     let P : ℕ → Type 0 = λ n. IsMarkState (next_of (begin_of n) d) in
     elim (or_cases _ (c == 62 && d == 61) h) as (λ _. IsMarkState (next_of (begin_of c) d)) [
-      inr g ↦ (let parts = and_parts (c == 62) (d == 61) g in
+      | inr g ↦ (let parts = and_parts (c == 62) (d == 61) g in
           only P c 62 (ap (λ s. kind_of (next_of s d)) begin-greater ∙ only (λ n. IsMarkState (next_of S.Greater n)) d 61 refl parts.1) parts.0)
-    | inl g ↦ elim (or_cases (c == 45 && d == 62) (c == 60 && (d == 45 || d == 61 || d == 62)) g) as (λ _. IsMarkState (next_of (begin_of c) d)) [
-        inl k ↦ (let parts = and_parts (c == 45) (d == 62) k in
+      | inl g ↦ elim (or_cases (c == 45 && d == 62) (c == 60 && (d == 45 || d == 61 || d == 62)) g) as (λ _. IsMarkState (next_of (begin_of c) d)) [
+        | inl k ↦ (let parts = and_parts (c == 45) (d == 62) k in
             only P c 45 (ap (λ s. kind_of (next_of s d)) begin-minus ∙ only (λ n. IsMarkState (next_of S.Minus n)) d 62 refl parts.1) parts.0)
-      | inr k ↦ (let parts = and_parts (c == 60) (d == 45 || d == 61 || d == 62) k in
+        | inr k ↦ (let parts = and_parts (c == 60) (d == 45 || d == 61 || d == 62) k in
             only P c 60 (ap (λ s. kind_of (next_of s d)) begin-less ∙ named (λ n. IsMarkState (next_of S.Less n)) _ d 62 (named (λ n. IsMarkState (next_of S.Less n)) _ d 61 (only (λ n. IsMarkState (next_of S.Less n)) d 45 refl) refl) refl parts.1) parts.0)
       ]
     ]
@@ -271,12 +270,12 @@ unfolding begin_of
 shape-begin c =
     let P : State → Type 0 = λ s. Shape s (c ∷ []) in
     chosen P (is_letter c) S.Plain _ (λ h. (h, refl)) (λ _. chosen P (is_digit c) S.Number _ (λ h. (h, refl)) (λ _. chosen P (is_gap c) S.Gap _ (λ h. (c, h, refl))
-        (λ _. chosen P (is_single c) (S.Done T.Mark) _ (λ h. single-mark c h)
-        (λ _. chosen P (c == 34) S.Quoted _ (λ h. ([], refl, ap (λ d. d ∷ []) (eqb-true c 34 h)))
-        (λ _. chosen P (c == 39) S.Words _ (λ h. ([], refl, ap (λ d. d ∷ []) (eqb-true c 39 h)))
-        (λ _. chosen P (c == 45) S.Minus _ (λ h. ap (λ d. d ∷ []) (eqb-true c 45 h))
-        (λ _. chosen P (c == 60) S.Less _ (λ h. ap (λ d. d ∷ []) (eqb-true c 60 h))
-        (λ _. chosen P (c == 62) S.Greater S.Dead (λ h. ap (λ d. d ∷ []) (eqb-true c 62 h)) (λ _. tt)))))))))
+    (λ _. chosen P (is_single c) (S.Done T.Mark) _ (λ h. single-mark c h)
+    (λ _. chosen P (c == 34) S.Quoted _ (λ h. ([], refl, ap (λ d. d ∷ []) (eqb-true c 34 h)))
+    (λ _. chosen P (c == 39) S.Words _ (λ h. ([], refl, ap (λ d. d ∷ []) (eqb-true c 39 h)))
+    (λ _. chosen P (c == 45) S.Minus _ (λ h. ap (λ d. d ∷ []) (eqb-true c 45 h))
+    (λ _. chosen P (c == 60) S.Less _ (λ h. ap (λ d. d ∷ []) (eqb-true c 60 h))
+    (λ _. chosen P (c == 62) S.Greater S.Dead (λ h. ap (λ d. d ∷ []) (eqb-true c 62 h)) (λ _. tt)))))))))
 
 shape-plain : (w : List ℕ) (c : ℕ) → IsPlain w → Shape (next_of S.Plain c) (w ++ (c ∷ []))
 shape-plain w c h = chosen (λ s. Shape s (w ++ (c ∷ []))) (is_letter c || is_digit c) S.Plain S.Dead (λ g. plain-more w c h g) (λ _. tt)
@@ -296,7 +295,7 @@ shape-fraction w c h = chosen (λ s. Shape s (w ++ (c ∷ []))) (is_digit c) S.F
 shape-quoted : (w : List ℕ) (c : ℕ) → Shape S.Quoted w → Shape (next_of S.Quoted c) (w ++ (c ∷ []))
 shape-quoted w c h = let P : State → Type 0 = λ s. Shape s (w ++ (c ∷ [])) in
     chosen P (is_in_quotes c) S.Quoted _ (λ g. (h.0 ++ (c ∷ []), all-more is_in_quotes h.0 c h.1 g, ap (λ v. v ++ (c ∷ [])) h.2))
-        (λ _. chosen P (c == 34) (S.Done T.Quoted) S.Dead (λ g. (h.0, h.1, ap (λ v. v ++ (c ∷ [])) h.2 ∙ ap (λ d. 34 ∷ (h.0 ++ (d ∷ []))) (eqb-true c 34 g))) (λ _. tt))
+    (λ _. chosen P (c == 34) (S.Done T.Quoted) S.Dead (λ g. (h.0, h.1, ap (λ v. v ++ (c ∷ [])) h.2 ∙ ap (λ d. 34 ∷ (h.0 ++ (d ∷ []))) (eqb-true c 34 g))) (λ _. tt))
 
 more-signs : (gs : List Sign) (g : Sign) → flat_map spelling gs ++ spelling g ≡ flat_map spelling (gs ++ (g ∷ []))
 more-signs gs g = ap (λ l. flat_map spelling gs ++ l) (sym (append-nil (spelling g))) ∙ sym (flat_map-append spelling gs (g ∷ []))
@@ -305,13 +304,16 @@ shape-words : (w : List ℕ) (c : ℕ) → Shape S.Words w → Shape (next_of S.
 shape-words w c h = let P : State → Type 0 = λ s. Shape s (w ++ (c ∷ [])) in
     let spelt : w ++ (c ∷ []) ≡ 39 ∷ (flat_map spelling h.0 ++ (c ∷ [])) = ap (λ v. v ++ (c ∷ [])) h.2 in
     chosen P (is_in_words c) S.Words _ (λ g. (h.0 ++ (Itself c ∷ []), all-more is_sign h.0 (Itself c) h.1 g, spelt ∙ ap (λ l. 39 ∷ l) (more-signs h.0 (Itself c))))
-        (λ _. chosen P (c == 39) (S.Done T.Words) _ (λ g. (h.0, h.1, spelt ∙ ap (λ d. 39 ∷ (flat_map spelling h.0 ++ (d ∷ []))) (eqb-true c 39 g)))
-        (λ _. chosen P (c == 92) S.Escape S.Dead (λ g. (h.0, h.1, spelt ∙ ap (λ d. 39 ∷ (flat_map spelling h.0 ++ (d ∷ []))) (eqb-true c 92 g))) (λ _. tt)))
+    (λ _. chosen P (c == 39) (S.Done T.Words) _ (λ g. (h.0, h.1, spelt ∙ ap (λ d. 39 ∷ (flat_map spelling h.0 ++ (d ∷ []))) (eqb-true c 39 g)))
+    (λ _. chosen P (c == 92) S.Escape S.Dead (λ g. (h.0, h.1, spelt ∙ ap (λ d. 39 ∷ (flat_map spelling h.0 ++ (d ∷ []))) (eqb-true c 92 g))) (λ _. tt)))
 
 shape-escape : (w : List ℕ) (c : ℕ) → Shape S.Escape w → Shape (next_of S.Escape c) (w ++ (c ∷ []))
 shape-escape w c h = chosen (λ s. Shape s (w ++ (c ∷ []))) (is_escape c) S.Words S.Dead
-    (λ g. (h.0 ++ (Escaped c ∷ []), all-more is_sign h.0 (Escaped c) h.1 g,
-        ap (λ v. v ++ (c ∷ [])) h.2 ∙ ap (λ l. 39 ∷ l) (append_assoc (flat_map spelling h.0) (92 ∷ []) (c ∷ []) ∙ more-signs h.0 (Escaped c)))) (λ _. tt)
+    (λ g. (
+      h.0 ++ (Escaped c ∷ []),
+      all-more is_sign h.0 (Escaped c) h.1 g,
+      ap (λ v. v ++ (c ∷ [])) h.2 ∙ ap (λ l. 39 ∷ l) (append_assoc (flat_map spelling h.0) (92 ∷ []) (c ∷ []) ∙ more-signs h.0 (Escaped c)),
+    )) (λ _. tt)
 
 two-mark : (a c n : ℕ) → IsMark (a ∷ n ∷ []) → c ≡ n → IsMark (a ∷ c ∷ [])
 two-mark a c n m e = subst (λ d. IsMark (a ∷ d ∷ [])) (sym e) m
@@ -319,7 +321,7 @@ two-mark a c n m e = subst (λ d. IsMark (a ∷ d ∷ [])) (sym e) m
 shape-minus : (w : List ℕ) (c : ℕ) → w ≡ 45 ∷ [] → Shape (next_of S.Minus c) (w ++ (c ∷ []))
 shape-minus w c h = let P : State → Type 0 = λ s. Shape s (w ++ (c ∷ [])) in
     chosen P (c == 45) S.Comment _ (λ g. ([], refl, ap (λ v. v ++ (c ∷ [])) h ∙ ap (λ d. 45 ∷ (d ∷ [])) (eqb-true c 45 g)))
-        (λ _. chosen P (c == 62) (S.Done T.Mark) S.Dead (λ g. subst (λ v. IsMark (v ++ (c ∷ []))) (sym h) (two-mark 45 c 62 refl (eqb-true c 62 g))) (λ _. tt))
+    (λ _. chosen P (c == 62) (S.Done T.Mark) S.Dead (λ g. subst (λ v. IsMark (v ++ (c ∷ []))) (sym h) (two-mark 45 c 62 refl (eqb-true c 62 g))) (λ _. tt))
 
 shape-less : (w : List ℕ) (c : ℕ) → w ≡ 60 ∷ [] → Shape (next_of S.Less c) (w ++ (c ∷ []))
 shape-less w c h = chosen (λ s. Shape s (w ++ (c ∷ []))) (c == 45 || c == 61 || c == 62) (S.Done T.Mark) S.Dead

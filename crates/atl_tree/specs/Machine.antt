@@ -1,6 +1,6 @@
 -- The cutting as a function: a machine that takes one character a step, and closes the open piece where the next
 -- character does not go on with it.
-use Rattle.std.specs.Prelude.{◌≡◌, ℕ, ◌||◌, ◌==◌, ◌-◌, Bool, true, false, List, [], ◌∷◌, ◌++◌, length, take, Option, None, Some, if◌then◌else◌}
+use Rattle.std.specs.Prelude.{ℕ, ◌||◌, ◌==◌, ◌-◌, List, [], ◌∷◌, ◌++◌, length, take, Option, None, Some, if◌then◌else◌}
 use Rattle.atl_tree.specs.declared.token.TokenSort.{TokenSort}
 use Rattle.atl_tree.specs.declared.token.TokenSort.TheVariants as T
 use Rattle.atl_tree.specs.declared.state.State.{State}

@@ -1,6 +1,6 @@
 -- Pieces: what a module's text is cut into. A piece is a token, or stands between tokens: a blank, a carriage return,
 -- the end of a line, or a comment. Each form is said of its characters alone.
-use Rattle.std.specs.Prelude.{◌≡◌, ℕ, ◌||◌, ◌&&◌, ◌==◌, ◌⊎◌, Bool, true, false, not, List, [], ◌∷◌, ◌++◌, Option, None, Some, IsTrue}
+use Rattle.std.specs.Prelude.{◌≡◌, ℕ, ◌||◌, ◌&&◌, ◌==◌, ◌⊎◌, Bool, true, not, List, [], ◌∷◌, ◌++◌, Option, None, Some}
 use Rattle.std.specs.Int.{is_in_range}
 use Rattle.std.specs.List.{list_all, flat_map}
 use Rattle.atl_tree.specs.declared.token.TokenSort.{TokenSort}

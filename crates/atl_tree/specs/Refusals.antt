@@ -1,12 +1,12 @@
 -- Why a text has no tokens, as relations, and the laws of tokens: the function answers tokens exactly where the text has
 -- them, and a refusal exactly where this one holds.
-use Rattle.std.specs.Prelude.{◌≡◌, ◌⊎◌, ℕ, List, [], ◌∷◌, ◌++◌, Option, None, Some, Result, Ok, Err, true, false}
+use Rattle.std.specs.Prelude.{◌≡◌, ◌⊎◌, ℕ, List, ◌∷◌, ◌++◌, None, Some, Ok, Err, false}
 use Rattle.atl_base.specs.declared.place.Place.{Place}
 use Rattle.atl_tree.specs.declared.token.Token.{Token}
 use Rattle.atl_tree.specs.declared.token.Tokens.{Tokens}
 use Rattle.atl_tree.specs.declared.token.LexRefusal.{LexRefusal}
 use Rattle.atl_tree.specs.declared.token.LexRefusal.TheVariants as R
-use Rattle.atl_tree.specs.Pieces.{Piece, IsPiece}
+use Rattle.atl_tree.specs.Pieces.{Piece}
 use Rattle.atl_tree.specs.Cutting.{chars_of, Begins, IsCut, IsStuck}
 use Rattle.atl_tree.specs.Tokens.{place, after, tokens_from, first_fault, body_of, begin_byte, HasTokens, tokens_of}
 
@@ -19,8 +19,8 @@ abbrev pub BeginsNone : ℕ → Type 0
 BeginsNone c = (more : List ℕ) → IsStuck (c ∷ more)
 
 -- the text begins with pieces of which none is refused, then comes a character, and the place is that of the character
-abbrev pub Fails : (ℕ → List ℕ → Type 0) → List ℕ → Place → Type 0
-Fails Why text p = (ps : List Piece) × (c : ℕ) × (cs : List ℕ) × Begins (body_of text) ps (c ∷ cs) × Why c cs
+abbrev pub StopsAt : (ℕ → List ℕ → Type 0) → List ℕ → Place → Type 0
+StopsAt Why text p = (ps : List Piece) × (c : ℕ) × (cs : List ℕ) × Begins (body_of text) ps (c ∷ cs) × Why c cs
     × (first_fault false (front_tokens text ps) ≡ None) × (p ≡ after (place 1 1) (chars_of ps))
 
 -- a text or a quoted name begins, and no text and no quoted name that begins so has an end
@@ -32,8 +32,8 @@ abbrev pub IsFault : List ℕ → LexRefusal → Type 0
 IsFault text e = (ps : List Piece) × (rest : List ℕ) × Begins (body_of text) ps rest × IsStuck rest × (first_fault false (front_tokens text ps) ≡ Some e)
 
 abbrev pub Refuses : List ℕ → LexRefusal → Type 0
-Refuses text (R.BadByte p) = Fails (λ c cs. BeginsNone c) text p
-Refuses text (R.OpenText p) = Fails HasNoEnd text p
+Refuses text (R.BadByte p) = StopsAt (λ c cs. BeginsNone c) text p
+Refuses text (R.OpenText p) = StopsAt HasNoEnd text p
 Refuses text (R.WideNumber p) = IsFault text (R.WideNumber p)
 Refuses text (R.RealNumber p) = IsFault text (R.RealNumber p)
 Refuses text R.Memory = ⊥
@@ -48,4 +48,4 @@ pub record IsExact (text : List ℕ) : Type 0 where
 abbrev pub IsBadFront : List ℕ → Type 0
 IsBadFront text = (p : Place) → tokens_of text ≡ Err (R.BadByte p)
     → (front : List ℕ) × (c : ℕ) × (cs : List ℕ) × (body_of text ≡ front ++ (c ∷ cs)) × (p ≡ after (place 1 1) front)
-        × ((more : List ℕ) (ps : List Piece) → IsCut (front ++ (c ∷ more)) ps → ⊥)
+    × ((more : List ℕ) (ps : List Piece) → IsCut (front ++ (c ∷ more)) ps → ⊥)

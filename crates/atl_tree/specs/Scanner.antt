@@ -1,6 +1,6 @@
 -- What the functions of the scanner give, over bytes and places: the machine's steps with the tokens written out.
-use Rattle.std.specs.Prelude.{◌≡◌, ◌≢◌, ℕ, ◌+◌, ◌-◌, ◌<◌, ◌≤◌, Bool, true, false, List, [], ◌∷◌, ◌++◌, length, Option, None, Some, slice_range, drop}
-use Rattle.std.specs.Str.{IsCharBoundary, chars}
+use Rattle.std.specs.Prelude.{◌≡◌, ℕ, ◌+◌, ◌-◌, ◌<◌, ◌≤◌, Bool, true, false, List, [], ◌∷◌, ◌++◌, Option, None, Some, slice_range}
+use Rattle.std.specs.Str.{IsCharBoundary}
 use Rattle.std.specs.Char.{len_utf8}
 use Rattle.atl_base.specs.declared.place.Place.{Place}
 use Rattle.atl_tree.specs.declared.token.Token.{Token}
@@ -9,12 +9,12 @@ use Rattle.atl_tree.specs.declared.token.TokenSort.TheVariants as T
 use Rattle.atl_tree.specs.declared.state.State.{State}
 use Rattle.atl_tree.specs.declared.state.State.TheVariants as S
 use Rattle.atl_tree.specs.declared.state.Stop.{Stop}
-use Rattle.atl_tree.specs.declared.state.Stop.TheVariants.{Over, Bad, Open}
+use Rattle.atl_tree.specs.declared.state.Stop.TheVariants.{Bad, Open}
 use Rattle.atl_tree.specs.declared.cursor.Cursor.{Cursor}
 use Rattle.atl_tree.specs.declared.cursor.Scanned.{Scanned}
 use Rattle.atl_tree.specs.declared.cursor.Move.{Move}
 use Rattle.atl_tree.specs.declared.cursor.Move.TheVariants.{Goes, Stops}
-use Rattle.atl_tree.specs.Machine.{Cut, cut_of, begin_of, next_of}
+use Rattle.atl_tree.specs.Machine.{Cut, begin_of, next_of}
 use Rattle.atl_tree.specs.Cutting.{chars_of}
 use Rattle.atl_tree.specs.Tokens.{place, past, after, token, tokens_from}
 

@@ -11,17 +11,14 @@ ghost use Rattle.atl_tree.specs.Slices.{AreSlices};
 /// where that refusal holds of it.
 pub fn tokens_are_exact()
     ensures { (text : List ℕ) → IsExact text }
-{
-}
+{}
 
 /// No text that agrees with a refused one up to and with its bad character has tokens.
 pub fn a_bad_character_is_bad_in_all()
     ensures { (text : List ℕ) → IsBadFront text }
-{
-}
+{}
 
 /// The tokens of a text are slices of it, one after another.
 pub fn tokens_are_slices()
     ensures { (text : List ℕ) (ts : Tokens) → IsXmlText text → HasTokens (chars text) ts → AreSlices text 0 ts.list }
-{
-}
+{}

@@ -75,10 +75,22 @@ mod tests {
                 shown.push_str(format!(in alloc; "end {line}:{column}")?.as_str())?;
                 Ok(shown)
             }
-            Err(LexRefusal::BadByte(p)) => Ok(format!(in alloc; "BadByte {}:{}", p.line, p.column)?),
-            Err(LexRefusal::OpenText(p)) => Ok(format!(in alloc; "OpenText {}:{}", p.line, p.column)?),
-            Err(LexRefusal::WideNumber(p)) => Ok(format!(in alloc; "WideNumber {}:{}", p.line, p.column)?),
-            Err(LexRefusal::RealNumber(p)) => Ok(format!(in alloc; "RealNumber {}:{}", p.line, p.column)?),
+            Err(LexRefusal::BadByte(p)) => Ok(format!(in alloc;
+                "BadByte {}:{}",
+                p.line, p.column
+            )?),
+            Err(LexRefusal::OpenText(p)) => Ok(format!(in alloc;
+                "OpenText {}:{}",
+                p.line, p.column
+            )?),
+            Err(LexRefusal::WideNumber(p)) => Ok(format!(in alloc;
+                "WideNumber {}:{}",
+                p.line, p.column
+            )?),
+            Err(LexRefusal::RealNumber(p)) => Ok(format!(in alloc;
+                "RealNumber {}:{}",
+                p.line, p.column
+            )?),
             Err(LexRefusal::Memory) => Ok(format!(in alloc; "Memory")?),
         }
     }
@@ -91,13 +103,31 @@ mod tests {
             ("\u{FEFF}x", "Plain(x)1:1@3..4 end 1:2"),
             ("a\u{FEFF}", "BadByte 1:2"),
             ("x\t\r\n y", "Plain(x)1:1@0..1 Plain(y)2:2@5..6 end 2:3"),
-            ("\"\" \"r\u{E9}\r!\"b", "Quoted(\"\")1:1@0..2 Quoted(\"r\u{E9}\r!\")1:4@3..10 Plain(b)1:10@10..11 end 1:11"),
-            ("'\u{1F600}a--b' -- c '\n''", "Words('\u{1F600}a--b')1:1@0..10 Words('')2:1@18..20 end 2:3"),
-            ("'\\n\\t\\r\\\\\\'' z", "Words('\\n\\t\\r\\\\\\'')1:1@0..12 Plain(z)1:14@13..14 end 1:15"),
-            ("0 007 9223372036854775807", "Number(0)1:1@0..1 Number(007)1:3@2..5 Number(9223372036854775807)1:7@6..25 end 1:26"),
-            ("1.abs()", "Number(1)1:1@0..1 Mark(.)1:2@1..2 Plain(abs)1:3@2..5 Mark(()1:6@5..6 Mark())1:7@6..7 end 1:8"),
+            (
+                "\"\" \"r\u{E9}\r!\"b",
+                "Quoted(\"\")1:1@0..2 Quoted(\"r\u{E9}\r!\")1:4@3..10 Plain(b)1:10@10..11 end 1:11",
+            ),
+            (
+                "'\u{1F600}a--b' -- c '\n''",
+                "Words('\u{1F600}a--b')1:1@0..10 Words('')2:1@18..20 end 2:3",
+            ),
+            (
+                "'\\n\\t\\r\\\\\\'' z",
+                "Words('\\n\\t\\r\\\\\\'')1:1@0..12 Plain(z)1:14@13..14 end 1:15",
+            ),
+            (
+                "0 007 9223372036854775807",
+                "Number(0)1:1@0..1 Number(007)1:3@2..5 Number(9223372036854775807)1:7@6..25 end 1:26",
+            ),
+            (
+                "1.abs()",
+                "Number(1)1:1@0..1 Mark(.)1:2@1..2 Plain(abs)1:3@2..5 Mark(()1:6@5..6 Mark())1:7@6..7 end 1:8",
+            ),
             ("1.", "Number(1)1:1@0..1 Mark(.)1:2@1..2 end 1:3"),
-            ("1..5", "Number(1)1:1@0..1 Mark(.)1:2@1..2 Mark(.)1:3@2..3 Number(5)1:4@3..4 end 1:5"),
+            (
+                "1..5",
+                "Number(1)1:1@0..1 Mark(.)1:2@1..2 Mark(.)1:3@2..3 Number(5)1:4@3..4 end 1:5",
+            ),
             ("1a", "Number(1)1:1@0..1 Plain(a)1:2@1..2 end 1:3"),
             ("a--", "Plain(a)1:1@0..1 end 1:4"),
         ];
@@ -118,7 +148,10 @@ mod tests {
             ("<-->", "Mark(<-)1:1@0..2 Mark(->)1:3@2..4 end 1:5"),
             ("<->", "Mark(<-)1:1@0..2 Mark(>)1:3@2..3 end 1:4"),
             ("-->\n-", "Mark(-)2:1@4..5 end 2:2"),
-            ("<=>=<>", "Mark(<=)1:1@0..2 Mark(>=)1:3@2..4 Mark(<>)1:5@4..6 end 1:7"),
+            (
+                "<=>=<>",
+                "Mark(<=)1:1@0..2 Mark(>=)1:3@2..4 Mark(<>)1:5@4..6 end 1:7",
+            ),
             ("- -", "Mark(-)1:1@0..1 Mark(-)1:3@2..3 end 1:4"),
             ("<<>", "Mark(<)1:1@0..1 Mark(<>)1:2@1..3 end 1:4"),
         ];
@@ -145,11 +178,26 @@ mod tests {
             ("x : Real", "RealNumber 1:5"),
             ("Real $", "RealNumber 1:1"),
             ("Real -- c\n = '", "RealNumber 1:1"),
-            ("a.Real", "Plain(a)1:1@0..1 Mark(.)1:2@1..2 Plain(Real)1:3@2..6 end 1:7"),
-            ("a->Real", "Plain(a)1:1@0..1 Mark(->)1:2@1..3 Plain(Real)1:4@3..7 end 1:8"),
-            ("M!\tReal", "Plain(M)1:1@0..1 Mark(!)1:2@1..2 Plain(Real)1:4@3..7 end 1:8"),
-            ("Real -- c\n<-", "Plain(Real)1:1@0..4 Mark(<-)2:1@10..12 end 2:3"),
-            ("\"Real\" Reals", "Quoted(\"Real\")1:1@0..6 Plain(Reals)1:8@7..12 end 1:13"),
+            (
+                "a.Real",
+                "Plain(a)1:1@0..1 Mark(.)1:2@1..2 Plain(Real)1:3@2..6 end 1:7",
+            ),
+            (
+                "a->Real",
+                "Plain(a)1:1@0..1 Mark(->)1:2@1..3 Plain(Real)1:4@3..7 end 1:8",
+            ),
+            (
+                "M!\tReal",
+                "Plain(M)1:1@0..1 Mark(!)1:2@1..2 Plain(Real)1:4@3..7 end 1:8",
+            ),
+            (
+                "Real -- c\n<-",
+                "Plain(Real)1:1@0..4 Mark(<-)2:1@10..12 end 2:3",
+            ),
+            (
+                "\"Real\" Reals",
+                "Quoted(\"Real\")1:1@0..6 Plain(Reals)1:8@7..12 end 1:13",
+            ),
             ("Real <- $", "BadByte 1:9"),
         ];
         for (text, expected) in cases {

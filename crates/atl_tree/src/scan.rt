@@ -75,7 +75,15 @@ fn put_point(
         line: cursor.place.line,
         column: cursor.place.column - 1,
     };
-    put(alloc, text, list, TokenSort::Number, cursor.begin, point, cursor.start)?;
+    put(
+        alloc,
+        text,
+        list,
+        TokenSort::Number,
+        cursor.begin,
+        point,
+        cursor.start,
+    )?;
     put(alloc, text, list, TokenSort::Mark, point, cursor.at, place)
 }
 
@@ -101,7 +109,15 @@ fn close(
         State::Minus | State::Less | State::Greater => TokenSort::Mark,
         State::Done(sort) => sort,
     };
-    put(alloc, text, list, sort, cursor.begin, cursor.at, cursor.start)?;
+    put(
+        alloc,
+        text,
+        list,
+        sort,
+        cursor.begin,
+        cursor.at,
+        cursor.start,
+    )?;
     Ok(true)
 }
 

@@ -77,7 +77,10 @@ fn is_gap(c: char) -> bool
 fn is_single(c: char) -> bool
     ensures { result ≡ is_single_of c }
 {
-    matches!(c, ';' | ':' | ',' | '(' | ')' | '{' | '}' | '!' | '=' | '+' | '*' | '.' | '|' | '#' | '/')
+    matches!(
+        c,
+        ';' | ':' | ',' | '(' | ')' | '{' | '}' | '!' | '=' | '+' | '*' | '.' | '|' | '#' | '/'
+    )
 }
 
 #[tactic(auto, unfolding(crate::specs::Pieces::is_escape))]
@@ -198,7 +201,10 @@ pub(crate) fn next(state: State, c: char) -> State
         State::Words => after_words(c),
         State::Escape => going(is_escape(c), State::Words),
         State::Minus => after_minus(c),
-        State::Less => going(c == '-' || c == '=' || c == '>', State::Done(TokenSort::Mark)),
+        State::Less => going(
+            c == '-' || c == '=' || c == '>',
+            State::Done(TokenSort::Mark),
+        ),
         State::Greater => going(c == '=', State::Done(TokenSort::Mark)),
         State::Comment => going(is_in_line(c), State::Comment),
         State::Gap | State::Done(_) | State::Dead => State::Dead,

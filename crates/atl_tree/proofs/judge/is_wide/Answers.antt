@@ -1,4 +1,4 @@
-use Rattle.std.proofs.Common.{◌≡◌, ℕ, ◌+◌, ◌-◌, ◌*◌, ◌<◌, ◌≤◌, drop, get_or, sym, ◌∙◌, arith}
+use Rattle.std.proofs.Common.{ℕ, ◌+◌, ◌*◌, ◌≤◌, drop, get_or, sym, ◌∙◌, arith}
 use Rattle.std.proofs.lemmas.Bool.{le-ltb, lt-ltb}
 use Rattle.atl_tree.specs.Tokens.{value_from}
 use Rattle.atl_tree.proofs.Judged.{value-on, value-stops, value-ends, value-grows, too-wide, within}
@@ -18,14 +18,15 @@ returns-then-value-digit c =
     let next : ℕ = c.loop-byte.value * 10 + c.from-digit.result in
     let e = sym (value-on c.args.text.now c.loop-byte.byte-index c.loop-byte.value c.from-digit.result c.loop-byte-test.true c.if-not-is_ascii_digit.ensures.value c.from-digit.ensures) ∙ i.0 in
     sym (lt-ltb 9223372036854775807 (value_from 0 c.args.text.now)
-        (omega (arith, e, value-grows next (drop (c.loop-byte.byte-index + 1) c.args.text.now), too-wide c.loop-byte.value c.from-digit.result 9223372036854775807 small c.if-value-digit.true)))
+    (omega (arith, e, value-grows next (drop (c.loop-byte.byte-index + 1) c.args.text.now), too-wide c.loop-byte.value c.from-digit.result 9223372036854775807 small c.if-value-digit.true)))
 
 pub loop-byte-preserved : goal.loop-byte-preserved
 loop-byte-preserved c =
     let i = c.loop-byte.invariant in
-    let small : c.from-digit.result ≤ 9223372036854775807 = omega (arith, c.from-digit.ensures, c.if-not-is_ascii_digit.ensures.cases) in
-    (sym (value-on c.args.text.now c.loop-byte.byte-index c.loop-byte.value c.from-digit.result c.loop-byte-test.true c.if-not-is_ascii_digit.ensures.value c.from-digit.ensures) ∙ i.0,
-     within c.loop-byte.value c.from-digit.result 9223372036854775807 small c.if-value-digit.false)
+    let small : c.from-digit.result ≤ 9223372036854775807 = omega (arith, c.from-digit.ensures, c.if-not-is_ascii_digit.ensures.cases) in (
+      sym (value-on c.args.text.now c.loop-byte.byte-index c.loop-byte.value c.from-digit.result c.loop-byte-test.true c.if-not-is_ascii_digit.ensures.value c.from-digit.ensures) ∙ i.0,
+      within c.loop-byte.value c.from-digit.result 9223372036854775807 small c.if-value-digit.false,
+    )
 
 pub returns : goal.returns
 returns c =

@@ -1,7 +1,6 @@
-use Rattle.std.proofs.Common.{◌≡◌, false, List, Option, None, Some, sym, ap, subst, ◌∙◌, Err, Result}
-use Rattle.std.specs.Str.{IsUtf8, IsCharBoundary, chars}
+use Rattle.std.proofs.Common.{◌≡◌, false, None, Some, sym, ap, subst, ◌∙◌}
+use Rattle.std.specs.Str.{IsCharBoundary, chars}
 use Rattle.atl_base.proofs.XmlTexts.{IsUtf8-from_text}
-use Rattle.atl_tree.specs.declared.state.Stop.TheVariants as H
 use Rattle.atl_tree.specs.Tokens.{begin_byte, verdict, first_fault, tokens_of}
 use Rattle.atl_tree.proofs.Told.{marked-text, told, fails}
 use Rattle.atl_tree.proofs.lex.tokens.Goals as goal
@@ -19,7 +18,7 @@ returns-in-Some c =
     let from : c.mark_length.result ≡ begin_byte (chars text) = c.mark_length.ensures ∙ ap (λ t. begin_byte (chars t)) c.as_str.ensures.text in
     let fault : first_fault false s.list ≡ Some c.in-Some.refusal = ap (first_fault false) (sym c.as_slice.ensures) ∙ sym c.in-Some.ensures in
     fails c.in-Some.refusal (tokens_of (chars text))
-        (told text c.mark_length.result s (IsUtf8-from_text text c.as_str.ensures.xml) from c.in_ok-scanned.ensures ∙ ap (λ o. verdict o s.stop s.list s.place) fault)
+    (told text c.mark_length.result s (IsUtf8-from_text text c.as_str.ensures.xml) from c.in_ok-scanned.ensures ∙ ap (λ o. verdict o s.stop s.list s.place) fault)
 
 pub returns-in-Over : goal.returns-in-Over
 returns-in-Over c =
@@ -47,4 +46,3 @@ returns-in-Open c =
     let fault : first_fault false s.list ≡ None = ap (first_fault false) (sym c.as_slice.ensures) ∙ sym c.in_default.ensures in
     told text c.mark_length.result s (IsUtf8-from_text text c.as_str.ensures.xml) from c.in_ok-scanned.ensures
     ∙ ap (λ o. verdict o s.stop s.list s.place) fault ∙ ap (λ h. verdict None h s.list s.place) c.in-Open.is
-
