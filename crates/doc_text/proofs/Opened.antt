@@ -78,12 +78,12 @@ begun ds base depth e o os new out mid last oe on s d some h m l =
     let lines : List ℕ = lines_of ds depth e.children in
     let tail : List ℕ = lines ++ (indent depth ++ ended ds e) in
     let p : pending ds base (reverse new) ≡ tail ++ rest =
-        ap (pending ds base) turned
-        ∙ pending_is ds base depth e o (reverse os) e.children oe (ap (λ n. drop n e.children) on) deeper
-        ∙ ap (λ t. lines ++ t) (sym (append_assoc (indent depth) (ended ds e) rest)) ∙ sym (append_assoc lines (indent depth ++ ended ds e) rest) in
+    ap (pending ds base) turned
+    ∙ pending_is ds base depth e o (reverse os) e.children oe (ap (λ n. drop n e.children) on) deeper
+    ∙ ap (λ t. lines ++ t) (sym (append_assoc (indent depth) (ended ds e) rest)) ∙ sym (append_assoc lines (indent depth ++ ended ds e) rest) in
     ap (λ t. last ++ t) p ∙ sym (append_assoc last tail rest)
     ∙ joined out mid (last ++ tail) (opened ds e depth) (codes ">\n" ++ tail) (written_element ds e depth) rest m
-        (ap (λ t. t ++ tail) l ∙ append_assoc mid (codes ">\n") tail) (written_lines ds e depth some h)
+    (ap (λ t. t ++ tail) l ∙ append_assoc mid (codes ">\n") tail) (written_lines ds e depth some h)
 
 drop_next : (cs : List Child) (i : ℕ) (c : Child) → i < length cs → c ≡ get_or cs i c → drop i cs ≡ c ∷ drop (i + 1) cs
 drop_next cs i c within at = rw (add-one, drop-cons cs i c) (ap (λ x. x ∷ drop (suc i) cs) (sym at))
@@ -93,7 +93,7 @@ pub next_child : (ds : List Prefix) (base depth : ℕ) (e : Element) (o p : Open
     pending ds base (o ∷ os) ≡ lines (suc depth) (written_child ds c) ++ pending ds base (p ∷ os)
 next_child ds base depth e o p os c oe pe n within at d =
     let more : drop o.next e.children ≡ c ∷ drop (o.next + 1) e.children =
-        drop_next e.children o.next c within at in
+    drop_next e.children o.next c within at in
     let here : List ℕ = lines (suc depth) (written_child ds c) in
     let after : List ℕ = lines_of ds depth (drop (o.next + 1) e.children) in
     let tail : List ℕ = indent depth ++ (ended ds e ++ pending ds base os) in

@@ -17,8 +17,9 @@ loop-c-preserved c =
     let i = c.loop-c.invariant in
     let here : List ℕ = encode_utf8 c.in-Some.c in
     let rest : List ℕ = chars_rest c.next.new.self in
-    let write = λ (l : List ℕ). flat_map (escaped c.args.place) l in
-    (i.0 ++ here,
-     i.1 ∙ ap (λ l. i.0 ++ l) c.in-Some.ensures.steps.0 ∙ sym (append_assoc i.0 here rest),
-     c.in_ok-push_escaped_char.ensures ∙ ap (λ l. l ++ write here) i.2 ∙ append_assoc c.args.out.now (write i.0) (write here) ∙ ap (λ l. c.args.out.now ++ l) (sym (flat_map-append (escaped c.args.place) i.0 here)),
-     (IsXmlText-parts c.in-Some.c rest (subst IsXmlText c.in-Some.ensures.steps.0 i.3)).1)
+    let write = λ (l : List ℕ). flat_map (escaped c.args.place) l in (
+      i.0 ++ here,
+      i.1 ∙ ap (λ l. i.0 ++ l) c.in-Some.ensures.steps.0 ∙ sym (append_assoc i.0 here rest),
+      c.in_ok-push_escaped_char.ensures ∙ ap (λ l. l ++ write here) i.2 ∙ append_assoc c.args.out.now (write i.0) (write here) ∙ ap (λ l. c.args.out.now ++ l) (sym (flat_map-append (escaped c.args.place) i.0 here)),
+      (IsXmlText-parts c.in-Some.c rest (subst IsXmlText c.in-Some.ensures.steps.0 i.3)).1,
+    )

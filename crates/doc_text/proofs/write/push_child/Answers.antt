@@ -12,8 +12,8 @@ returns-in-Sub-clause-written c base d =
     let rest : List ℕ = pending ds base (reverse c.args.stack.now.items) in
     let same : written_child ds c.args.child.now ≡ Lines (written_element ds c.in-Sub.element) = ap (written_child ds) c.in-Sub.is ∙ child_is ds c.in-Sub.element in
     OnOk-map c.push_start.result
-        (λ is. is ∙ ap (λ w. c.args.out.now ++ (lines c.args.depth w ++ rest)) (sym same))
-        (c.push_start.ensures.written base d)
+    (λ is. is ∙ ap (λ w. c.args.out.now ++ (lines c.args.depth w ++ rest)) (sym same))
+    (c.push_start.ensures.written base d)
 
 pub returns-in-Words-clause-written : goal.returns-in-Words-clause-written
 returns-in-Words-clause-written c base d =
@@ -21,6 +21,6 @@ returns-in-Words-clause-written c base d =
     let rest : List ℕ = pending ds base (reverse c.args.stack.now.items) in
     let same : written_child ds c.args.child.now ≡ Words c.in-Words.text = ap (written_child ds) c.in-Words.is ∙ words_are ds c.in-Words.text in
     OnOk-map c.push_text_line.result
-        (λ is. ap (λ o. o ++ rest) is ∙ append_assoc c.args.out.now (lines c.args.depth (Words c.in-Words.text)) rest
-            ∙ ap (λ w. c.args.out.now ++ (lines c.args.depth w ++ rest)) (sym same))
-        c.push_text_line.ensures
+    (λ is. ap (λ o. o ++ rest) is ∙ append_assoc c.args.out.now (lines c.args.depth (Words c.in-Words.text)) rest
+    ∙ ap (λ w. c.args.out.now ++ (lines c.args.depth w ++ rest)) (sym same))
+    c.push_text_line.ensures

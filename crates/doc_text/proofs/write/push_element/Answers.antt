@@ -12,7 +12,7 @@ pub loop-top-smaller : goal.loop-top-smaller
 loop-top-smaller c =
     let ds = c.args.declared.now in
     let turned : reverse c.loop-top.stack.items ≡ c.in-Some.top ∷ reverse c.pop.new.self.items =
-        ap reverse c.in-Some.ensures.items ∙ reverse-append c.pop.new.self.items (c.in-Some.top ∷ []) in
+    ap reverse c.in-Some.ensures.items ∙ reverse-append c.pop.new.self.items (c.in-Some.top ∷ []) in
     let behind : c.args.depth + length c.pop.new.self.items ≡ c.args.depth + c.len.result = omega (arith, c.len.ensures) in
     shrinks c.loop-top.out c.push_next.new.out (pending ds c.args.depth (reverse c.push_next.new.stack.items)) (pending ds c.args.depth (reverse c.loop-top.stack.items))
-        (c.in_ok-push_next.ensures.written c.args.depth behind ∙ ap (λ r. c.loop-top.out ++ pending ds c.args.depth r) (sym turned)) c.in_ok-push_next.ensures.grows
+    (c.in_ok-push_next.ensures.written c.args.depth behind ∙ ap (λ r. c.loop-top.out ++ pending ds c.args.depth r) (sym turned)) c.in_ok-push_next.ensures.grows
