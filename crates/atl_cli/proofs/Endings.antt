@@ -1,11 +1,10 @@
 -- How a run ends, from what its steps have shown.
-use Rattle.std.proofs.Common.{◌≡◌, ◌≢◌, ◌≤◌, ◌<◌, ◌⊎◌, inl, inr, ℕ, List, [], ◌++◌, length, Option, Some, None, Result, Ok, Err, true, false, IfOk, IfSome, MatchOption, ap, sym, subst, ◌∙◌, refl, arith}
+use Rattle.std.proofs.Common.{◌≡◌, ◌≢◌, ◌≤◌, ◌<◌, ℕ, List, [], length, Option, Some, None, Result, Ok, Err, true, false, IfOk, IfSome, ap, sym, subst, ◌∙◌, refl, arith}
 use Rattle.std.specs.Prelude.{IsErr, map}
-use Rattle.std.specs.Option.{option_map}
 use Rattle.std.specs.declared.alloc.AllocError.{AllocError}
 use Rattle.atl_outside.specs.declared.files.FileFault.{FileFault}
 use Rattle.atl_outside.specs.declared.files.FileFault.TheVariants.{Failed, TooBig, Memory}
-use Rattle.atl_outside.specs.Held.{Held, bytes_at, with_content, SameElsewhere}
+use Rattle.atl_outside.specs.Held.{Held, bytes_at, SameElsewhere}
 use Rattle.atl_outside.specs.Rose.{Rose}
 use Rattle.atl_cli.specs.declared.one_rule.OneRule.{OneRule}
 use Rattle.atl_cli.specs.declared.source.SourceElement.{SourceElement}
@@ -14,7 +13,7 @@ use Rattle.atl_cli.specs.declared.status.Status.TheVariants as status
 use Rattle.atl_cli.specs.declared.status.Size.TheVariants as size
 use Rattle.atl_cli.specs.declared.status.Form.TheVariants as form
 use Rattle.atl_cli.specs.Flat.{flat, item, text_of}
-use Rattle.atl_cli.specs.Answers.{HasSpace, ArePaths, HasModule, HasPaths, HasElements, Judges, OtherModule, OtherNames, OtherSource, ManyObjects, Copies, Outcome, Ends, Writes, Ended, IsWritten, file_limit, object_limit}
+use Rattle.atl_cli.specs.Answers.{HasSpace, ArePaths, HasModule, HasPaths, HasElements, Judges, OtherModule, OtherNames, OtherSource, ManyObjects, Copies, Ends, Writes, Ended, IsWritten, file_limit, object_limit}
 use Rattle.atl_cli.specs.OneRule.{IsModule, is_name, is_reserved}
 use Rattle.atl_cli.specs.Plain.{is_plain_name}
 use Rattle.atl_cli.specs.Source.{IsSource}
@@ -59,9 +58,12 @@ pub written_ends : (words : List (List ℕ)) (path text : List ℕ) (before afte
 written_ends words path text before after low mid high status.Ok some le j w = (path, text, j, w)
 written_ends words path text before after low mid high status.Memory some le j w = absurd w
 written_ends words path text before after low mid high (status.ReadFault at) some le j w = absurd w
-written_ends words path text before after low mid high (status.WriteFault at) some le j w =
-    (Rose-earlier low mid high le w.0, (λ e. some (sym w.1 ∙ e)), subst (λ p. SameElsewhere p before after) (sym w.1) w.2,
-     IfSome-map before (λ held g. (text, subst (λ p. Judges words held (Writes p text)) (sym w.1) g)) j)
+written_ends words path text before after low mid high (status.WriteFault at) some le j w = (
+  Rose-earlier low mid high le w.0,
+  (λ e. some (sym w.1 ∙ e)),
+  subst (λ p. SameElsewhere p before after) (sym w.1) w.2,
+  IfSome-map before (λ held g. (text, subst (λ p. Judges words held (Writes p text)) (sym w.1) g)) j,
+)
 written_ends words path text before after low mid high (status.TooLarge what) some le j w = absurd w
 written_ends words path text before after low mid high (status.NotYet what) some le j w = absurd w
 
@@ -115,8 +117,8 @@ space_of bytes m is =
     let s = and_parts (is_name m.source) _ r.1 in
     let t = and_parts (is_name m.source_metamodel) _ s.1 in
     record {
-        name = (and_parts (is_plain_name m.source_metamodel) _ t.0).0;
-        other = λ e. let both : true ≡ false = sym (ap is_reserved e) ∙ is.rule.names.source_space in cc;
+      name = (and_parts (is_plain_name m.source_metamodel) _ t.0).0;
+      other = λ e. let both : true ≡ false = sym (ap is_reserved e) ∙ is.rule.names.source_space in cc;
     }
 
 abbrev pub NoModule : List ℕ → Type 0

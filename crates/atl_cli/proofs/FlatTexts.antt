@@ -1,5 +1,5 @@
 -- The text of a target of none or several elements: the element around them, and their lines.
-use Rattle.std.proofs.Common.{◌≡◌, ◌≢◌, ℕ, List, [], ◌∷◌, ◌++◌, length, Option, Some, None, codes, ap, sym, ◌∙◌, refl, append_assoc, arith}
+use Rattle.std.proofs.Common.{◌≡◌, ◌≢◌, ℕ, List, [], ◌∷◌, ◌++◌, length, Option, None, codes, ap, sym, ◌∙◌, refl, append_assoc, arith}
 use Rattle.std.specs.Prelude.{map}
 use Rattle.std.specs.List.{flat_map}
 use Rattle.doc_text.specs.declared.tree.Child.{Child}
@@ -11,7 +11,7 @@ use Rattle.doc_text.specs.Written.{lines, written_element, written_child, declar
 use Rattle.doc_text.proofs.WrittenElements.{child_is}
 use Rattle.doc_text.proofs.Opened.{lines_of, written_empty, written_lines}
 use Rattle.atl_cli.specs.declared.one_rule.OneRule.{OneRule}
-use Rattle.atl_cli.specs.Flat.{element, item, version, namespaces, document, text_of}
+use Rattle.atl_cli.specs.Flat.{element, item, version, namespaces, text_of}
 
 -- the element around them, with these children
 abbrev around : List ℕ → List Child → Element

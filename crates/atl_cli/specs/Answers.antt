@@ -73,15 +73,15 @@ pub data Judges (words : List (List ℕ)) (held : Held) : Outcome → Type 0 whe
   OtherWords : ((r : Request) → IsRequest words r → ⊥) → Judges words held (Ends (NotYet form.Words))
   LongModule : (r : Request) → IsRequest words r → file_limit < length (bytes_at held r.module) → Judges words held (Ends (TooLarge File))
   OtherModule : (r : Request) → IsRequest words r → length (bytes_at held r.module) ≤ file_limit
-    → ((m : OneRule) → IsModule (bytes_at held r.module) m → ⊥) → Judges words held (Ends (NotYet form.Module))
+      → ((m : OneRule) → IsModule (bytes_at held r.module) m → ⊥) → Judges words held (Ends (NotYet form.Module))
   OtherNames : (r : Request) (m : OneRule) → HasModule words held r m
-    → ((target source : List ℕ) → ArePaths m r.pairs target source → ⊥) → Judges words held (Ends (NotYet form.Words))
+      → ((target source : List ℕ) → ArePaths m r.pairs target source → ⊥) → Judges words held (Ends (NotYet form.Words))
   LongSource : (m : OneRule) (target source : List ℕ) → HasPaths words held m target source → file_limit < length (bytes_at held source) → Judges words held (Ends (TooLarge File))
   OtherSource : (m : OneRule) (target source : List ℕ) → HasPaths words held m target source → length (bytes_at held source) ≤ file_limit
-    → ((es : List SourceElement) → IsSource m.source_metamodel (bytes_at held source) es → ⊥) → Judges words held (Ends (NotYet form.Model))
+      → ((es : List SourceElement) → IsSource m.source_metamodel (bytes_at held source) es → ⊥) → Judges words held (Ends (NotYet form.Model))
   ManyObjects : (m : OneRule) (target : List ℕ) (es : List SourceElement) → HasElements words held m target es → object_limit < length es → Judges words held (Ends (TooLarge Objects))
   Copies : (m : OneRule) (target : List ℕ) (es : List SourceElement) → HasElements words held m target es → length es ≤ object_limit
-    → Judges words held (Writes target (text_of m (flat m es)))
+      → Judges words held (Writes target (text_of m (flat m es)))
 
 -- a path that is read
 abbrev pub IsRead : List (List ℕ) → Held → List ℕ → Type 0

@@ -139,11 +139,7 @@ fn push_items(
 }
 
 // The text of a target of none or several elements.
-fn write_several(
-    alloc: Global,
-    rule: &OneRule,
-    values: &[Option<Text>],
-) -> Result<Text, AllocError>
+fn write_several(alloc: Global, rule: &OneRule, values: &[Option<Text>]) -> Result<Text, AllocError>
     requires { length values.now ≢ 1 }
     ensures { IfOk result (λ t. t ≡ text_of rule.now (map (item_of rule.now) values.now)) }
 {

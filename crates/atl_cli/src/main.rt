@@ -9,11 +9,10 @@ mod one_rule;
 mod plain;
 mod source;
 mod status;
-mod transform;
-mod words;
-
 #[cfg(test)]
 mod tests;
+mod transform;
+mod words;
 
 use atl_base::steps::Steps;
 use atl_base::text::{Text, TextRefusal};

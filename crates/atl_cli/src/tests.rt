@@ -9,9 +9,11 @@ use std::marker::Brand;
 use std::sync::ledger::{Blank, Ledger};
 use std::test::Fail;
 
-const MODULE: &str = "module M;\ncreate OUT : B from IN : A;\nrule R { from s : A!Node to t : B!Item (label <- s.name) }\n";
+const MODULE: &str =
+    "module M;\ncreate OUT : B from IN : A;\nrule R { from s : A!Node to t : B!Item (label <- s.name) }\n";
 
-const HEADER: &str = " xmi:version=\"2.0\" xmlns:xmi=\"http://www.omg.org/XMI\" xmlns:xsi=\"http://www.w3.org/2001/XMLSchema-instance\" xmlns:";
+const HEADER: &str =
+    " xmi:version=\"2.0\" xmlns:xmi=\"http://www.omg.org/XMI\" xmlns:xsi=\"http://www.w3.org/2001/XMLSchema-instance\" xmlns:";
 
 const WORDS: &str = "transform M.atl A=A.ecore B=B.ecore IN=in.xmi OUT=out.xmi";
 
@@ -61,7 +63,10 @@ fn files_of(alloc: Global, row: &Row) -> Result<MemFiles, Fail> {
         text_of(alloc, "in.xmi")?,
         Vec::from_slice(alloc, source.as_bytes())?,
     ))?;
-    held.push((text_of(alloc, "out.xmi")?, Vec::from_slice(alloc, b"before")?))?;
+    held.push((
+        text_of(alloc, "out.xmi")?,
+        Vec::from_slice(alloc, b"before")?,
+    ))?;
     Ok(MemFiles::new(held, Vec::from_slice(alloc, row.fails)?))
 }
 
@@ -124,7 +129,11 @@ fn answers_each_row(rt: HostRuntime) -> Result<(), Fail> {
         assert!(rt; out.bytes() == row.line.as_bytes(), "{}", row.source);
         let target = target_of(alloc, row)?;
         let path = text_of(alloc, "out.xmi")?;
-        assert!(rt; files.content(&path) == Some(target.as_bytes()), "{}", row.source);
+        assert!(rt;
+            files.content(&path) == Some(target.as_bytes()),
+            "{}",
+            row.source
+        );
     }
     Ok(())
 }

@@ -41,11 +41,7 @@ fn path_of<'a>(pairs: &'a [Pair], name: &Text) -> Option<&'a Text>
 }
 
 // The paths of the models, where the pairs' names are those of the header.
-fn read_paths(
-    alloc: Global,
-    rule: &OneRule,
-    pairs: &[Pair],
-) -> Result<Option<Paths>, AllocError>
+fn read_paths(alloc: Global, rule: &OneRule, pairs: &[Pair]) -> Result<Option<Paths>, AllocError>
     ensures { IfOk result (λ read. MatchOption read
         ((target source : List ℕ) → ArePaths rule.now pairs.now target source → ⊥)
         (λ p. ArePaths rule.now pairs.now p.target p.source)) }
@@ -69,11 +65,7 @@ fn read_paths(
 }
 
 // How a read that gave no bytes ends the call.
-fn after_read_fault(
-    alloc: Global,
-    fault: FileFault,
-    path: &Text,
-) -> Result<Status, AllocError>
+fn after_read_fault(alloc: Global, fault: FileFault, path: &Text) -> Result<Status, AllocError>
     ensures failed { fault ≡ FileFault.Failed → IfOk result (λ s. s ≡ Status.ReadFault path.now) }
     ensures too_big { fault ≡ FileFault.TooBig → IfOk result (λ s. s ≡ Status.TooLarge Size.File) }
     ensures memory { fault ≡ FileFault.Memory → IsErr result }
@@ -140,7 +132,13 @@ fn read_kept(alloc: Global, rule: &OneRule, bytes: &[u8]) -> Result<Option<Kept>
         ((es : List SomeElement) → IsSource rule.now.source_metamodel bytes.now es → ⊥)
         (λ k. (es : List SomeElement) × IsSource rule.now.source_metamodel bytes.now es × (map (item rule.now) k.values ≡ flat rule.now es) × (k.count ≡ length es))) }
 {
-    read_source(alloc, bytes, &rule.source_metamodel, &rule.class, &rule.read)
+    read_source(
+        alloc,
+        bytes,
+        &rule.source_metamodel,
+        &rule.class,
+        &rule.read,
+    )
 }
 
 // Reads the module, and then runs its rule.

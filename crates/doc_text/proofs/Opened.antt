@@ -1,5 +1,5 @@
 -- What is written of an element, by its children: none, a lone text, or lines; and what is pending then.
-use Rattle.std.proofs.Common.{◌≡◌, ℕ, suc, ◌+◌, ◌<◌, ◌≤◌, List, [], ◌∷◌, ◌++◌, length, drop, get_or, Some, None, Option, Result, Ok, Err, OnOk, codes, ap, sym, subst, ◌∙◌, refl, append_assoc, add-one, drop-cons, arith}
+use Rattle.std.proofs.Common.{◌≡◌, ℕ, suc, ◌+◌, ◌<◌, ◌≤◌, List, [], ◌∷◌, ◌++◌, length, drop, get_or, Some, None, Result, Ok, Err, OnOk, codes, ap, sym, ◌∙◌, refl, append_assoc, add-one, drop-cons, arith}
 use Rattle.std.specs.Prelude.{map, reverse}
 use Rattle.std.specs.List.{flat_map}
 use Rattle.std.proofs.lemmas.List.{drop_all, nil_from_length, reverse-append, length-reverse}

@@ -1,5 +1,5 @@
 -- What is written of an element, by what is written of its children.
-use Rattle.std.proofs.Common.{◌≡◌, ℕ, List, [], ◌∷◌, ◌++◌, length, get_or, Some, None, ap, sym, ◌∙◌, refl, arith}
+use Rattle.std.proofs.Common.{◌≡◌, ℕ, List, [], ◌∷◌, ◌++◌, length, get_or, Some, None, ap, sym, ◌∙◌, arith}
 use Rattle.std.specs.Prelude.{map}
 use Rattle.doc_text.specs.declared.tree.Child.{Child, map-Child, fold_out-Child}
 use Rattle.doc_text.specs.declared.tree.Child.TheVariants as child

@@ -1,6 +1,6 @@
 -- What is written of a document: the declaration of XML 1.0 (section 2.8), then each element on a line of its own,
 -- behind two blanks for each element around it. All namespaces are declared at the root.
-use Rattle.std.specs.Prelude.{ℕ, suc, ◌+◌, ◌*◌, ◌&&◌, Bool, not, List, [], ◌∷◌, ◌++◌, codes, filter, replicate, Option, Some, None}
+use Rattle.std.specs.Prelude.{ℕ, suc, ◌*◌, ◌&&◌, Bool, not, List, [], ◌∷◌, ◌++◌, codes, filter, replicate, Option, Some, None}
 use Rattle.std.specs.Option.{option_map_or}
 use Rattle.std.specs.List.{flat_map}
 use Rattle.std.specs.Str.{bytes_eq}

@@ -1,4 +1,4 @@
-use Rattle.std.proofs.Common.{◌≡◌, ◌≢◌, ◌<◌, ℕ, get_or}
+use Rattle.std.proofs.Common.{◌≢◌, ◌<◌, ℕ, get_or}
 use Rattle.atl_cli.specs.declared.words.Pair.{Pair}
 use Rattle.atl_cli.proofs.transform.path_of.Given as goal
 

@@ -1,7 +1,7 @@
 use Rattle.std.proofs.Common.{◌≡◌, ◌++◌, List, ℕ, ap, ◌∙◌, sym, append_assoc}
 use Rattle.std.specs.Prelude.{reverse}
 use Rattle.doc_text.specs.Pending.{pending}
-use Rattle.doc_text.specs.Written.{Written, Lines, Words, lines, written_child, written_element}
+use Rattle.doc_text.specs.Written.{Lines, Words, lines, written_child, written_element}
 use Rattle.doc_text.proofs.Opened.{OnOk-map}
 use Rattle.doc_text.proofs.WrittenElements.{child_is, words_are}
 use Rattle.doc_text.proofs.write.push_child.Goals as goal

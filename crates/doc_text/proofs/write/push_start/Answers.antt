@@ -1,4 +1,4 @@
-use Rattle.std.proofs.Common.{◌≡◌, ◌++◌, Some, None, codes, length, true, false, refl, sym, ap, ◌∙◌, ◌==◌}
+use Rattle.std.proofs.Common.{◌≡◌, codes, length, true, false, refl, sym, ap, ◌∙◌, ◌==◌}
 use Rattle.std.specs.Prelude.{map, reverse}
 use Rattle.std.proofs.lemmas.Bool.{eqb-true}
 use Rattle.doc_text.specs.Pending.{pending}
