@@ -18,6 +18,7 @@ const HEADER: &str =
 const WORDS: &str = "transform M.atl A=A.ecore B=B.ecore IN=in.xmi OUT=out.xmi";
 
 /// What a call is given, and what it answers.
+#[derive(Clone, Copy)]
 struct Row {
     words: &'static str,
     module: &'static str,
@@ -25,6 +26,8 @@ struct Row {
     source: &'static str,
     /// The numbers of the calls on the files that fail.
     fails: &'static [u64],
+    /// The numbers of the calls on the sink that fail.
+    put_fails: &'static [u64],
     number: u8,
     line: &'static str,
     /// The target behind its declaration, with `[B]` for the header, where it is written.
@@ -107,33 +110,149 @@ fn target_of(alloc: Global, row: &Row) -> Result<String, Fail> {
 
 const ALONE: &str = "<A:Node[A] name=\"x\"/>";
 
-const ROWS: [Row; 1] = [Row {
+/// A row of the one rule over one element: the answer is its target.
+const COPIES: Row = Row {
     words: WORDS,
     module: MODULE,
     source: ALONE,
     fails: &[],
+    put_fails: &[],
     number: 0,
     line: "",
     target: Some("<B:Item[B] label=\"x\"/>\n"),
-}];
+};
+
+// Runs a row, and compares the status, the line and what the target's path holds.
+fn holds<L: Ledger>(alloc: Global, row: &Row, blank: Blank) -> Result<bool, Fail>
+    requires name { blank.name ≡ L.name }
+    requires parts { blank.parts ≡ L.parts }
+    requires some { 0 < L.parts }
+{
+    let words = words_of(alloc, row.words)?;
+    let mut files = files_of(alloc, row)?;
+    let mut out = MemSink::new(alloc, Vec::from_slice(alloc, row.put_fails)?);
+    let status = call::<L>(alloc, &words, &mut files, &mut out, blank);
+    let target = target_of(alloc, row)?;
+    let path = text_of(alloc, "out.xmi")?;
+    let told = status.number() == row.number && out.bytes() == row.line.as_bytes();
+    Ok(told && files.content(&path) == Some(target.as_bytes()))
+}
+
+// A row whose source is this, and whose answer is a target.
+fn copies(source: &'static str, target: &'static str) -> Row {
+    Row {
+        source,
+        target: Some(target),
+        ..COPIES
+    }
+}
+
+// A row whose source is this, which is refused.
+fn no_source(source: &'static str) -> Row {
+    Row {
+        source,
+        number: 15,
+        line: "15 NotYet: model\n",
+        target: None,
+        ..COPIES
+    }
+}
+
+// A row that ends with this number and line.
+fn ends(words: &'static str, module: &'static str, number: u8, line: &'static str) -> Row {
+    Row {
+        words,
+        module,
+        number,
+        line,
+        target: None,
+        ..COPIES
+    }
+}
+
+// A row in which these calls on the files and on the sink fail.
+fn fails(fails: &'static [u64], put_fails: &'static [u64], line: &'static str, number: u8) -> Row {
+    Row {
+        fails,
+        put_fails,
+        number,
+        line,
+        target: None,
+        ..COPIES
+    }
+}
 
 #[test]
-fn answers_each_row(rt: HostRuntime) -> Result<(), Fail> {
+fn targets_are_written(rt: HostRuntime) -> Result<(), Fail> {
     let alloc = rt.alloc();
-    for row in &ROWS {
-        let words = words_of(alloc, row.words)?;
-        let mut files = files_of(alloc, row)?;
-        let mut out = MemSink::new(alloc, Vec::new(alloc));
-        let status = call::<Brand>(alloc, &words, &mut files, &mut out, Blank::new(1));
-        assert_eq!(rt; status.number(), row.number, "{}", row.source);
-        assert!(rt; out.bytes() == row.line.as_bytes(), "{}", row.source);
-        let target = target_of(alloc, row)?;
-        let path = text_of(alloc, "out.xmi")?;
-        assert!(rt;
-            files.content(&path) == Some(target.as_bytes()),
-            "{}",
-            row.source
-        );
+    let rows = [
+        COPIES,
+        copies("<xmi:XMI[A]/>\n", "<xmi:XMI[B]/>\n"),
+        copies("<xmi:XMI[A]>\n  <A:Other name=\"q\"/>\n</xmi:XMI>", "<xmi:XMI[B]/>\n"),
+        copies(
+            "<xmi:XMI[A]>\n  <A:Node name=\"p\"/>\n  <A:Other name=\"q\"/>\n  <A:Node/>\n</xmi:XMI>",
+            "<xmi:XMI[B]>\n  <B:Item label=\"p\"/>\n  <B:Item/>\n</xmi:XMI>\n",
+        ),
+        copies(
+            "<xmi:XMI[A]>\n  <A:Node other=\"q\"/>\n  <A:Other name=\"q\"/>\n</xmi:XMI>",
+            "<B:Item[B]/>\n",
+        ),
+        copies("<A:Node[A] name=\"a>é\" other=\"y\"/>\n", "<B:Item[B] label=\"a>é\"/>\n"),
+    ];
+    for row in &rows {
+        assert!(rt; holds::<Brand>(alloc, row, Blank::new(1))?, "{}", row.source);
+    }
+    Ok(())
+}
+
+#[test]
+fn sources_are_refused(rt: HostRuntime) -> Result<(), Fail> {
+    let alloc = rt.alloc();
+    let rows = [
+        no_source(""),
+        no_source("<A:Node[A] name=\"x\""),
+        no_source("<A:Node[A] name=\"x\" name=\"y\"/>"),
+        no_source("<A:Node[A] name=\"&amp;\"/>"),
+        no_source("<A:Node[A] name=\"\u{1}\"/>"),
+        no_source("<B:Node[A] name=\"x\"/>"),
+    ];
+    for row in &rows {
+        assert!(rt; holds::<Brand>(alloc, row, Blank::new(1))?, "{}", row.source);
+    }
+    Ok(())
+}
+
+#[test]
+fn words_and_modules_are_refused(rt: HostRuntime) -> Result<(), Fail> {
+    let alloc = rt.alloc();
+    let words = "15 NotYet: words\n";
+    let rows = [
+        ends(WORDS, "module M;", 15, "15 NotYet: module\n"),
+        ends(WORDS, "", 15, "15 NotYet: module\n"),
+        ends("transform M.atl A=A.ecore B=B.ecore IN=in.xmi", MODULE, 15, words),
+        ends("transform M.atl A=a B=b IN=in.xmi OUT=out.xmi C=c", MODULE, 15, words),
+        ends("transform M.atl A=a B=b IN=in.xmi IN=out.xmi", MODULE, 15, words),
+        ends("transform M.atl A=a B=b IN=in.xmi X=out.xmi", MODULE, 15, words),
+        ends("transform -M.atl A=a B=b IN=in.xmi OUT=out.xmi", MODULE, 15, words),
+        ends("grow M.atl A=a B=b IN=in.xmi OUT=out.xmi", MODULE, 15, words),
+    ];
+    for row in &rows {
+        assert!(rt; holds::<Brand>(alloc, row, Blank::new(1))?, "{}", row.words);
+    }
+    Ok(())
+}
+
+#[test]
+fn failures_are_told(rt: HostRuntime) -> Result<(), Fail> {
+    let alloc = rt.alloc();
+    let rows = [
+        fails(&[1], &[], "3 ReadFault: M.atl\n", 3),
+        fails(&[2], &[], "3 ReadFault: in.xmi\n", 3),
+        fails(&[3], &[], "4 WriteFault: out.xmi\n", 4),
+        fails(&[2], &[1], "", 4),
+    ];
+    for row in &rows {
+        assert!(rt; holds::<Brand>(alloc, row, Blank::new(1))?, "{}", row.line);
     }
     Ok(())
 }

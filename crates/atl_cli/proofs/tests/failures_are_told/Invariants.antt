@@ -1,0 +1,5 @@
+use Rattle.atl_cli.proofs.tests.failures_are_told.Given as goal
+
+-- a ledger of its own for the steps
+abbrev pub ghosts-holds : goal.ghosts-holds
+ghosts-holds a = record { name = a.blank.name; parts = a.blank.parts }
