@@ -182,3 +182,13 @@ module _ (text : List ℕ) where
       by-blame (token_is f) = absurd (subst IsMaybeFault f (first-kind false (front_tokens text (cut_of (body_of text)).pieces)))
       by-blame (bad_is f s k) = (s, let same : p ≡ after (place 1 1) (chars_of (cut_of (body_of text)).pieces) = cc in same)
       by-blame (open_is f s k) = absurd cc
+
+  -- where the answer is an open text the machine stopped at one
+  pub stopped-open : (p : Place) → tokens_of text ≡ Err (R.OpenText p) → ((cut_of (body_of text)).stop ≡ Open) × (p ≡ after (place 1 1) (chars_of (cut_of (body_of text)).pieces))
+  stopped-open p h = by-blame (verdict-err _ _ _ _ (R.OpenText p) (sym now ∙ h))
+    where
+      by-blame : Blame (first_fault false (front_tokens text (cut_of (body_of text)).pieces)) (cut_of (body_of text)).stop (after (place 1 1) (chars_of (cut_of (body_of text)).pieces)) (R.OpenText p)
+          → ((cut_of (body_of text)).stop ≡ Open) × (p ≡ after (place 1 1) (chars_of (cut_of (body_of text)).pieces))
+      by-blame (token_is f) = absurd (subst IsMaybeFault f (first-kind false (front_tokens text (cut_of (body_of text)).pieces)))
+      by-blame (bad_is f s k) = absurd cc
+      by-blame (open_is f s k) = (s, let same : p ≡ after (place 1 1) (chars_of (cut_of (body_of text)).pieces) = cc in same)

@@ -47,7 +47,7 @@ step-to m c f S.Dead e = step-closed m c f (ended m.state m.seen) refl
 step-to m c f n e =
     (Fits-next n m.seen c (λ k. next-start m.state c (e ∙ k)) (λ k. next-point m.state c (e ∙ k)), sym (append_assoc (chars_of m.done) m.seen (c ∷ [])))
 
-step-reads : (m : Machine) (c : ℕ) → Fits m.state m.seen → StepReads m c (step m c)
+pub step-reads : (m : Machine) (c : ℕ) → Fits m.state m.seen → StepReads m c (step m c)
 step-reads m c f = step-to m c f (next_of m.state c) refl
 
 no-bad-end : (ps : List Piece) (o : Option (List Piece)) → (finished ps o).stop ≡ Bad → ⊥

@@ -5,3 +5,4 @@ pub mod Told
 pub mod Walks
 pub mod Exact
 pub mod Fronts
+pub mod Lines

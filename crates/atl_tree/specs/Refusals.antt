@@ -49,3 +49,9 @@ abbrev pub IsBadFront : List ℕ → Type 0
 IsBadFront text = (p : Place) → tokens_of text ≡ Err (R.BadByte p)
     → (front : List ℕ) × (c : ℕ) × (cs : List ℕ) × (body_of text ≡ front ++ (c ∷ cs)) × (p ≡ after (place 1 1) front)
     × ((more : List ℕ) (ps : List Piece) → IsCut (front ++ (c ∷ more)) ps → ⊥)
+
+-- no text that agrees with this one up to and with the line feed behind an open text or quoted name has tokens
+abbrev pub IsOpenFront : List ℕ → Type 0
+IsOpenFront text = (p : Place) → tokens_of text ≡ Err (R.OpenText p)
+    → (front : List ℕ) × (c : ℕ) × (cs : List ℕ) × (body_of text ≡ front ++ (c ∷ cs)) × (p ≡ after (place 1 1) front)
+    × ((line rest : List ℕ) → cs ≡ line ++ (10 ∷ rest) → (more : List ℕ) (ps : List Piece) → IsCut (front ++ (c ∷ (line ++ (10 ∷ more)))) ps → ⊥)
