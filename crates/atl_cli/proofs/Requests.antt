@@ -46,7 +46,7 @@ same_pair p q ok fine e =
     let parts = one_split p.name p.path q.name q.path ok.first fine.first e in
     ap (λ n. let r : Pair = record { name = n; path = p.path } in r) parts.0 ∙ ap (λ t. let r : Pair = record { name = q.name; path = t } in r) parts.1
 
-same_pairs : (ps qs : List Pair) → AllByRecursion IsPair ps → AllByRecursion IsPair qs → map pair_word ps ≡ map pair_word qs → ps ≡ qs
+pub same_pairs : (ps qs : List Pair) → AllByRecursion IsPair ps → AllByRecursion IsPair qs → map pair_word ps ≡ map pair_word qs → ps ≡ qs
 same_pairs [] [] ok fine e = refl
 same_pairs [] (q ∷ qs) ok fine e = cc
 same_pairs (p ∷ ps) [] ok fine e = cc

@@ -1,6 +1,7 @@
 // The top call: a command over files, and its line over a sink.
-ghost use Rattle.std.specs.Prelude.{◌≡◌};
-ghost use Rattle.atl_cli.specs.Answers.{Ended, Told};
+ghost use Rattle.std.specs.Prelude.{◌≡◌, ℕ, List};
+ghost use Rattle.atl_outside.specs.Held.{Held};
+ghost use Rattle.atl_cli.specs.Answers.{Ended, Judges, Outcome, Told};
 ghost use Rattle.atl_cli.specs.declared.status.Status.{Status as SomeStatus};
 
 use crate::status::Status;
@@ -49,3 +50,8 @@ pub fn atl<F: Files, K: Sink, L: Ledger>(
     };
     report(alloc, end, out)
 }
+
+/// A call has one answer, whatever words it is given and whatever the files hold.
+pub fn one_answer()
+    ensures { (words : List (List ℕ)) (held : Held) (a b : Outcome) → Judges words held a → Judges words held b → a ≡ b }
+{}

@@ -1,0 +1,5 @@
+use Rattle.atl_cli.proofs.OneAnswer.{one_answer}
+use Rattle.atl_cli.proofs.call.one_answer.Goals as goal
+
+pub returns : goal.returns
+returns c = one_answer
