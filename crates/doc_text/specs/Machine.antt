@@ -1,0 +1,300 @@
+-- Reading, one character a step: what is open, the innermost element first, and what may come next.
+use Rattle.std.specs.Prelude.{ℕ, ◌==◌, ◌&&◌, List, [], ◌∷◌, ◌++◌, Bool, true, false, if◌then◌else◌, nat_eq, codes, encode_utf8, Option, Some, None}
+use Rattle.atl_base.specs.declared.place.Place.{Place}
+use Rattle.doc_text.specs.Symbols.{Kind, Less, Greater, Slash, And, Semicolon, Quote, Apostrophe, Equals, Bang, Question, Hash, Colon, Dash, Blank, Letter, Bad, Symbol, code_of, utf8, is_good, is_name, is_value, is_decimal, is_ex, is_hexadecimal}
+use Rattle.doc_text.specs.Raw.{Name, called, pair, Start, start, Tree, Node, Trees, Nil, Also, add_text, same_name}
+use Rattle.doc_text.specs.Faults.{Fault, BadByte, Expected, MismatchedEnd, TooDeep, Trailing, Unsupported}
+use Rattle.doc_text.specs.Namespaces.{tag_fault}
+use Rattle.doc_text.specs.Form.{Target, ByName, ByNumber, character_of, one_more, value_bytes, bracketed, is_reserved}
+use Rattle.doc_text.specs.Conditions.{passes, is_known, unknown, is_shallow}
+
+-- an open element, with what has been read in it
+pub record Open : Type 0 where
+  pub tag : Start
+  pub children : Trees
+
+abbrev pub opened : Start → Trees → Open
+opened t ts = record { tag = t; children = ts }
+
+abbrev pub tags : List Open → List Start
+tags [] = []
+tags (f ∷ fs) = f.tag ∷ tags fs
+
+abbrev pub grow : Open → List ℕ → Open
+grow f bytes = opened f.tag (add_text bytes f.children)
+
+-- where markup stands: before the root, in an element, after the root
+pub data Around : Type 0 where
+  Before : Around
+  Within : Open → List Open → Around
+  After : Tree → Around
+
+-- whose name is read: a start tag's, in these open elements, with the place of its <; an attribute's; an end tag's
+pub data Bearer : Type 0 where
+  OfStart : List Open → Place → Bearer
+  OfAttribute : List Open → Start → Bearer
+  OfEnd : Open → List Open → Bearer
+
+-- where a reference stands: in text, or in a value
+pub data Citing : Type 0 where
+  InText : Open → List Open → Citing
+  InValue : Bool → List Open → Start → Name → List ℕ → Citing
+
+-- what has been read of a reference
+pub data Cited : Type 0 where
+  Nameless : Cited                 -- &
+  ByEntity : List ℕ → Cited
+  Hashed : Cited                   -- &#
+  Decimal : ℕ → Cited
+  Hexed : Cited                    -- &#x
+  Hexadecimal : ℕ → Cited
+
+pub data State : Type 0 where
+  Prolog : State
+  Inside : ℕ → Open → List Open → State          -- after that many brackets
+  Epilog : Tree → State
+  Begun : Around → Place → State                 -- <
+  Banged : Around → Place → State                -- <!
+  BangDash : Around → Place → State              -- <!-
+  Remarking : Around → State                     -- in a comment
+  RemarkDash : Around → State                    -- - in a comment
+  RemarkEnd : Around → State                     -- -- in a comment
+  Asked : Around → State                         -- <?
+  Targeting : Around → List ℕ → State
+  TargetEnd : Around → State                     -- ? after a target
+  Telling : Bool → Around → State                -- in an instruction, after a ? or not
+  Naming : Bearer → Place → List ℕ → State       -- the first part of a name
+  Coloned : Bearer → Place → List ℕ → State
+  Localing : Bearer → Place → List ℕ → List ℕ → State
+  Spaced : List Open → Start → State             -- blanks in a start tag
+  Valued : List Open → Start → State             -- a value's end
+  Shutting : List Open → Start → State           -- / in a start tag
+  Equalling : List Open → Start → Name → State   -- = is wanted
+  Opening : List Open → Start → Name → State     -- a quote is wanted
+  Valuing : Bool → List Open → Start → Name → List ℕ → State
+  Ending : Open → List Open → State              -- </
+  Closing : Open → List Open → State             -- > is wanted
+  Citation : Citing → Place → Cited → State
+
+pub data Step : Type 0 where
+  Goes : State → Step
+  Stops : Step
+  Breaks : Fault → Place → Step
+
+-- where markup ends
+abbrev pub back : Around → State
+back Before = Prolog
+back (Within f fs) = Inside 0 f fs
+back (After t) = Epilog t
+
+-- an element ends
+abbrev pub ended : List Open → Tree → State
+ended [] t = Epilog t
+ended (f ∷ fs) t = Inside 0 (opened f.tag (Also f.children t)) fs
+
+abbrev pub cited : Citing → List ℕ → State
+cited (InText f fs) bytes = Inside 0 (grow f bytes) fs
+cited (InValue d fs t n v) bytes = Valuing d fs t n (v ++ bytes)
+
+-- an attribute is read
+abbrev pub further : Start → Name → List ℕ → Start
+further t n v = start t.at t.name (t.pairs ++ (pair n v ∷ []))
+
+abbrev pub weighed : Bool → Option (Fault × Place) → Step → Step
+weighed false fault next = next
+weighed true None next = next
+weighed true (Some f) next = Breaks f.0 f.1
+
+abbrev pub end_begins : Around → Step
+end_begins Before = Stops
+end_begins (Within f fs) = Goes (Ending f fs)
+end_begins (After t) = Stops
+
+abbrev pub opening_quote : List Open → Start → Name → Kind → Step
+opening_quote fs t n Quote = Goes (Valuing true fs t n [])
+opening_quote fs t n Apostrophe = Goes (Valuing false fs t n [])
+opening_quote fs t n (Blank c) = Goes (Opening fs t n)
+opening_quote fs t n k = Stops
+
+abbrev pub attribute_goes : List Open → Start → Name → Kind → Step
+attribute_goes fs t n (Blank c) = Goes (Equalling fs t n)
+attribute_goes fs t n Equals = Goes (Opening fs t n)
+attribute_goes fs t n k = Stops
+
+abbrev pub end_goes : Open → List Open → Kind → Step
+end_goes f fs (Blank c) = Goes (Closing f fs)
+end_goes f fs Greater = Goes (ended fs (Node f.tag f.children))
+end_goes f fs k = Stops
+
+abbrev pub target_goes : Around → Kind → Step
+target_goes a (Blank c) = Goes (Telling false a)
+target_goes a Question = Goes (TargetEnd a)
+target_goes a k = Stops
+
+abbrev pub telling : Around → Bool → Kind → Step
+telling a asked Bad = Stops
+telling a asked Question = Goes (Telling true a)
+telling a asked Greater = if asked then Goes (back a) else Goes (Telling false a)
+telling a asked k = Goes (Telling false a)
+
+abbrev pub in_value : Bool → List Open → Start → Name → List ℕ → Kind → Place → Step
+in_value d fs t n v And p = Goes (Citation (InValue d fs t n v) p Nameless)
+in_value true fs t n v Quote p = Goes (Valued fs (further t n v))
+in_value false fs t n v Apostrophe p = Goes (Valued fs (further t n v))
+in_value d fs t n v k p = if is_value d k then Goes (Valuing d fs t n (v ++ value_bytes k)) else Stops
+
+module _ (strict : Bool) where
+  -- a start tag is judged where it has been read to its end
+  abbrev pub judged : List Open → Start → Step → Step
+  judged fs t next = weighed strict (tag_fault (tags fs) t) next
+
+  abbrev pub tag_goes : List Open → Start → Kind → Step
+  tag_goes fs t (Blank c) = Goes (Spaced fs t)
+  tag_goes fs t Slash = Goes (Shutting fs t)
+  tag_goes fs t Greater = judged fs t (Goes (Inside 0 (opened t Nil) fs))
+  tag_goes fs t k = Stops
+
+  abbrev pub matched : Open → Name → Step → Step
+  matched f n next = if passes strict (same_name n f.tag.name) then next else Breaks MismatchedEnd n.at
+
+  -- a name is over at this character
+  abbrev pub named : Bearer → Name → Kind → Step
+  named (OfStart fs p) n k = tag_goes fs (start p n []) k
+  named (OfAttribute fs t) n k = attribute_goes fs t n k
+  named (OfEnd f fs) n k = matched f n (end_goes f fs k)
+
+  -- an element begins there
+  abbrev pub shallow : List Open → Place → Step → Step
+  shallow fs p next = if passes strict (is_shallow (tags fs)) then next else Breaks TooDeep p
+
+  abbrev pub begins_in : List Open → Place → Kind → Place → Step
+  begins_in fs p k q = shallow fs p (Goes (Naming (OfStart fs p) q (utf8 k)))
+
+  abbrev pub element_begins : Around → Place → Kind → Place → Step
+  element_begins Before p k q = begins_in [] p k q
+  element_begins (Within f fs) p k q = begins_in (f ∷ fs) p k q
+  element_begins (After t) p k q = Stops
+
+  abbrev pub known : Citing → Place → Target → Step
+  known c p t = if passes strict (is_known t) then Goes (cited c (encode_utf8 (character_of t))) else Breaks (unknown t) p
+
+  abbrev pub cite : Citing → Place → Cited → Kind → Step
+  cite c p Nameless (Letter x) = Goes (Citation c p (ByEntity (utf8 (Letter x))))
+  cite c p Nameless Hash = Goes (Citation c p Hashed)
+  cite c p Nameless k = Stops
+  cite c p (ByEntity n) Semicolon = known c p (ByName n)
+  cite c p (ByEntity n) k = if is_name k then Goes (Citation c p (ByEntity (n ++ utf8 k))) else Stops
+  cite c p Hashed k = if is_decimal k then Goes (Citation c p (Decimal (one_more 10 0 k))) else (if is_ex k then Goes (Citation c p Hexed) else Stops)
+  cite c p (Decimal n) Semicolon = known c p (ByNumber n)
+  cite c p (Decimal n) k = if is_decimal k then Goes (Citation c p (Decimal (one_more 10 n k))) else Stops
+  cite c p Hexed k = if is_hexadecimal k then Goes (Citation c p (Hexadecimal (one_more 16 0 k))) else Stops
+  cite c p (Hexadecimal n) Semicolon = known c p (ByNumber n)
+  cite c p (Hexadecimal n) k = if is_hexadecimal k then Goes (Citation c p (Hexadecimal (one_more 16 n k))) else Stops
+
+  abbrev pub step : State → Kind → Place → Step
+  step Prolog Less p = Goes (Begun Before p)
+  step Prolog (Blank c) p = Goes Prolog
+  step Prolog k p = Stops
+  step (Epilog t) Less p = Goes (Begun (After t) p)
+  step (Epilog t) (Blank c) p = Goes (Epilog t)
+  step (Epilog t) k p = Stops
+  step (Inside n f fs) Less p = Goes (Begun (Within f fs) p)
+  step (Inside n f fs) And p = Goes (Citation (InText f fs) p Nameless)
+  step (Inside n f fs) Bad p = Stops
+  step (Inside n f fs) Greater p = if nat_eq n 2 then Stops else Goes (Inside 0 (grow f (utf8 Greater)) fs)
+  step (Inside n f fs) k p = Goes (Inside (bracketed n k) (grow f (utf8 k)) fs)
+  step (Begun a p) Bang q = Goes (Banged a p)
+  step (Begun a p) Question q = Goes (Asked a)
+  step (Begun a p) Slash q = end_begins a
+  step (Begun a p) (Letter c) q = element_begins a p (Letter c) q
+  step (Begun a p) k q = Stops
+  step (Banged a p) Dash q = Goes (BangDash a p)
+  step (Banged a p) k q = Stops
+  step (BangDash a p) Dash q = Goes (Remarking a)
+  step (BangDash a p) k q = Stops
+  step (Remarking a) Dash q = Goes (RemarkDash a)
+  step (Remarking a) Bad q = Stops
+  step (Remarking a) k q = Goes (Remarking a)
+  step (RemarkDash a) Dash q = Goes (RemarkEnd a)
+  step (RemarkDash a) Bad q = Stops
+  step (RemarkDash a) k q = Goes (Remarking a)
+  step (RemarkEnd a) Greater q = Goes (back a)
+  step (RemarkEnd a) k q = Stops
+  step (Asked a) (Letter c) q = Goes (Targeting a (utf8 (Letter c)))
+  step (Asked a) k q = Stops
+  step (Targeting a n) k q = if is_name k then Goes (Targeting a (n ++ utf8 k)) else (if is_reserved n then Stops else target_goes a k)
+  step (TargetEnd a) Greater q = Goes (back a)
+  step (TargetEnd a) k q = Stops
+  step (Telling asked a) k q = telling a asked k
+  step (Naming b p n) Colon q = Goes (Coloned b p n)
+  step (Naming b p n) k q = if is_name k then Goes (Naming b p (n ++ utf8 k)) else named b (called p [] n) k
+  step (Coloned b p n) (Letter c) q = Goes (Localing b p n (utf8 (Letter c)))
+  step (Coloned b p n) k q = Stops
+  step (Localing b p n m) k q = if is_name k then Goes (Localing b p n (m ++ utf8 k)) else named b (called p n m) k
+  step (Spaced fs t) (Letter c) q = Goes (Naming (OfAttribute fs t) q (utf8 (Letter c)))
+  step (Spaced fs t) k q = tag_goes fs t k
+  step (Valued fs t) k q = tag_goes fs t k
+  step (Shutting fs t) Greater q = judged fs t (Goes (ended fs (Node t Nil)))
+  step (Shutting fs t) k q = Stops
+  step (Equalling fs t n) k q = attribute_goes fs t n k
+  step (Opening fs t n) k q = opening_quote fs t n k
+  step (Valuing d fs t n v) k q = in_value d fs t n v k q
+  step (Ending f fs) (Letter c) q = Goes (Naming (OfEnd f fs) q (utf8 (Letter c)))
+  step (Ending f fs) k q = Stops
+  step (Closing f fs) k q = end_goes f fs k
+  step (Citation c p x) k q = cite c p x k
+
+-- the first character that is not taken refuses, for it is none, or the form needs something else
+abbrev pub unwanted : Place → List Symbol → Fault × Place
+unwanted end [] = (Expected, end)
+unwanted end (s ∷ rest) = (if is_good s.kind then Expected else BadByte, s.at)
+
+abbrev pub begins : List ℕ → List Symbol → Bool
+begins [] ss = true
+begins (c ∷ cs) [] = false
+begins (c ∷ cs) (s ∷ ss) = code_of s.kind == c && begins cs ss
+
+-- after <!, what is not read
+abbrev pub declares : List Symbol → Bool
+declares ss = if begins (codes "DOCTYPE") ss then true else begins (codes "[CDATA[") ss
+
+abbrev pub declared : Place → Place → List Symbol → Fault × Place
+declared end p ss = if declares ss then (Unsupported, p) else unwanted end ss
+
+abbrev pub after_root : Place → List Symbol → Fault × Place
+after_root end [] = (Expected, end)
+after_root end (s ∷ rest) = (if is_good s.kind then Trailing else BadByte, s.at)
+
+-- why reading stops at the first of these characters, or at the text's end
+abbrev pub reason : Place → State → List Symbol → Fault × Place
+reason end (Begun (After t) p) ss = (Trailing, p)
+reason end (Banged (After t) p) ss = (Trailing, p)
+reason end (BangDash (After t) p) ss = (Trailing, p)
+reason end (Epilog t) ss = after_root end ss
+reason end (Banged a p) ss = declared end p ss
+reason end s ss = unwanted end ss
+
+pub data End : Type 0 where
+  Read : Tree → End
+  Refused : Fault × Place → End
+
+abbrev pub after : Step → Fault × Place → (State → End) → End
+after Stops why k = Refused why
+after (Breaks e p) why k = Refused (e, p)
+after (Goes s) why k = k s
+
+module _ (strict : Bool) (end : Place) where
+  -- a name may be over at the text's end
+  abbrev pub finish : State → End
+  finish (Epilog t) = Read t
+  finish (Naming (OfEnd f fs) p n) = after (matched strict f (called p [] n) Stops) (Expected, end) (λ s. Refused (Expected, end))
+  finish (Localing (OfEnd f fs) p n m) = after (matched strict f (called p n m) Stops) (Expected, end) (λ s. Refused (Expected, end))
+  finish s = Refused (reason end s [])
+
+  abbrev pub run : State → List Symbol → End
+  run s [] = finish s
+  run s (t ∷ ts) = after (step strict s t.kind t.at) (reason end s (t ∷ ts)) (λ u. run u ts)
+
+  -- the characters of a document, its declaration apart
+  abbrev pub read : List Symbol → End
+  read ss = run Prolog ss
