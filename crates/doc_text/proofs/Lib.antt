@@ -1,0 +1,3 @@
+pub mod Zipper
+pub mod Sound
+pub mod Completes

@@ -1,0 +1,261 @@
+-- What has been written where reading stands: for each state of the machine the parts of the form that came before.
+use Rattle.std.specs.Prelude.{ℕ, ◌≡◌, List, [], ◌∷◌, ◌++◌, Bool, true, false}
+use Rattle.atl_base.specs.declared.place.Place.{Place}
+use Rattle.doc_text.specs.Symbols.{Kind, Less, Greater, Slash, And, Equals, Bang, Question, Hash, Colon, Dash, Symbol, mark, utf8, quote, is_blank, is_good, is_name, is_decimal, is_ex, is_hexadecimal}
+use Rattle.doc_text.specs.Raw.{Name, called, Start, start, same_name}
+use Rattle.doc_text.specs.Form.{Run, No, More, spelt, joined, Plain, plain_spelt, plain_bytes, QName, Unprefixed, Prefixed, name_spelt, name_of, one_more, counted, Values, values_spelt, value_of, Gap, gap_spelt, Attributes, attributes_spelt, pairs_of, Tag, tag_spelt, start_of, Remarks, remarks_spelt, ends_asking, IsUnclosed, is_reserved, Miscs, miscs_spelt, Element, element_spelt, Items, items_spelt, tree_of, trees_of, brackets}
+use Rattle.doc_text.specs.Conditions.{passes, is_shallow, AttributesFit, ValueFits, TagFits, ElementFits, ItemsFit}
+use Rattle.doc_text.specs.Machine.{Open, opened, tags, Around, Before, Within, After, Bearer, OfStart, OfAttribute, OfEnd, Citing, InText, InValue, Cited, Nameless, ByEntity, Hashed, Decimal, Hexed, Hexadecimal, State, Prolog, Inside, Epilog, Begun, Banged, BangDash, Remarking, RemarkDash, RemarkEnd, Asked, Targeting, TargetEnd, Telling, Naming, Coloned, Localing, Spaced, Valued, Shutting, Equalling, Opening, Valuing, Ending, Closing, Citation}
+
+-- the open elements: what came before the root, then each start tag with what was read in it
+pub data Opens : Type 0 where
+  Bottom : Miscs → Opens
+  Opened : Opens → Tag → Place → Items → Opens
+
+abbrev pub opens_value : Opens → List Open
+opens_value (Bottom m) = []
+opens_value (Opened z t g is) = opened (start_of t) (trees_of is) ∷ opens_value z
+
+abbrev pub scope : Opens → List Start
+scope z = tags (opens_value z)
+
+abbrev pub opens_spelt : Opens → List Symbol → List Symbol
+opens_spelt (Bottom m) rest = miscs_spelt m rest
+opens_spelt (Opened z t g is) rest = opens_spelt z (tag_spelt t (mark g Greater ∷ items_spelt is rest))
+
+pub data ZAround : Type 0 where
+  ZBefore : Miscs → ZAround
+  ZWithin : Opens → Tag → Place → Items → ZAround
+  ZAfter : Miscs → Element → Miscs → ZAround
+
+abbrev pub around_value : ZAround → Around
+around_value (ZBefore m) = Before
+around_value (ZWithin z t g is) = Within (opened (start_of t) (trees_of is)) (opens_value z)
+around_value (ZAfter m e k) = After (tree_of e)
+
+abbrev pub around_spelt : ZAround → List Symbol → List Symbol
+around_spelt (ZBefore m) rest = miscs_spelt m rest
+around_spelt (ZWithin z t g is) rest = opens_spelt (Opened z t g is) rest
+around_spelt (ZAfter m e k) rest = miscs_spelt m (element_spelt e (miscs_spelt k rest))
+
+-- a start tag so far, without the blanks that end it
+pub record Part : Type 0 where
+  pub less : Place
+  pub name : QName
+  pub attributes : Attributes
+
+abbrev pub part_spelt : Part → List Symbol → List Symbol
+part_spelt t rest = mark t.less Less ∷ name_spelt t.name (attributes_spelt t.attributes rest)
+
+abbrev pub part_start : Part → Start
+part_start t = start t.less (name_of t.name) (pairs_of t.attributes)
+
+-- an attribute up to its opening quote
+pub record Half : Type 0 where
+  pub gap : Gap
+  pub name : QName
+  pub before : Run is_blank
+  pub equals : Place
+  pub after : Run is_blank
+  pub double : Bool
+  pub opens : Place
+
+abbrev pub half_spelt : Half → List Symbol → List Symbol
+half_spelt a rest = gap_spelt a.gap (name_spelt a.name (spelt a.before (mark a.equals Equals ∷ spelt a.after (mark a.opens (quote a.double) ∷ rest))))
+
+pub data ZBearer : Type 0 where
+  ZStart : Opens → Place → ZBearer
+  ZAttribute : Opens → Part → Gap → ZBearer
+  ZEnd : Opens → Tag → Place → Items → Place → Place → ZBearer
+
+abbrev pub bearer_value : ZBearer → Bearer
+bearer_value (ZStart z p) = OfStart (opens_value z) p
+bearer_value (ZAttribute z t g) = OfAttribute (opens_value z) (part_start t)
+bearer_value (ZEnd z t g is p q) = OfEnd (opened (start_of t) (trees_of is)) (opens_value z)
+
+abbrev pub bearer_spelt : ZBearer → List Symbol → List Symbol
+bearer_spelt (ZStart z p) rest = opens_spelt z (mark p Less ∷ rest)
+bearer_spelt (ZAttribute z t g) rest = opens_spelt z (part_spelt t (gap_spelt g rest))
+bearer_spelt (ZEnd z t g is p q) rest = opens_spelt (Opened z t g is) (mark p Less ∷ mark q Slash ∷ rest)
+
+pub data ZCiting : Type 0 where
+  ZText : Opens → Tag → Place → Items → ZCiting
+  ZValue : Opens → Part → (h : Half) → Values h.double → ZCiting
+
+abbrev pub citing_value : ZCiting → Citing
+citing_value (ZText z t g is) = InText (opened (start_of t) (trees_of is)) (opens_value z)
+citing_value (ZValue z t h v) = InValue h.double (opens_value z) (part_start t) (name_of h.name) (value_of v)
+
+abbrev pub citing_spelt : ZCiting → List Symbol → List Symbol
+citing_spelt (ZText z t g is) rest = opens_spelt (Opened z t g is) rest
+citing_spelt (ZValue z t h v) rest = opens_spelt z (part_spelt t (half_spelt h (values_spelt v rest)))
+
+pub data ZCited : Type 0 where
+  ZNameless : ZCited
+  ZEntity : Plain → ZCited
+  ZHashed : Place → ZCited
+  ZDecimal : Place → (s : Symbol) → is_decimal s.kind ≡ true → Run is_decimal → ZCited
+  ZHexed : Place → (x : Symbol) → is_ex x.kind ≡ true → ZCited
+  ZHexadecimal : Place → (x : Symbol) → is_ex x.kind ≡ true → (s : Symbol) → is_hexadecimal s.kind ≡ true → Run is_hexadecimal → ZCited
+
+abbrev pub cited_value : ZCited → Cited
+cited_value ZNameless = Nameless
+cited_value (ZEntity n) = ByEntity (plain_bytes n)
+cited_value (ZHashed h) = Hashed
+cited_value (ZDecimal h s e run) = Decimal (counted 10 (one_more 10 0 s.kind) run)
+cited_value (ZHexed h x i) = Hexed
+cited_value (ZHexadecimal h x i s e run) = Hexadecimal (counted 16 (one_more 16 0 s.kind) run)
+
+abbrev pub cited_spelt : ZCited → List Symbol → List Symbol
+cited_spelt ZNameless rest = rest
+cited_spelt (ZEntity n) rest = plain_spelt n rest
+cited_spelt (ZHashed h) rest = mark h Hash ∷ rest
+cited_spelt (ZDecimal h s e run) rest = mark h Hash ∷ s ∷ spelt run rest
+cited_spelt (ZHexed h x i) rest = mark h Hash ∷ x ∷ rest
+cited_spelt (ZHexadecimal h x i s e run) rest = mark h Hash ∷ x ∷ s ∷ spelt run rest
+
+-- the start of an instruction, with its target
+pub record Pointed : Type 0 where
+  pub less : Place
+  pub asks : Place
+  pub target : Plain
+  pub free : is_reserved (plain_bytes target) ≡ false
+
+abbrev pub pointed_spelt : Pointed → List Symbol → List Symbol
+pointed_spelt i rest = mark i.less Less ∷ mark i.asks Question ∷ plain_spelt i.target rest
+
+pub data Zip : Type 0 where
+  ZProlog : Miscs → Zip
+  ZInside : Opens → Tag → Place → Items → Zip
+  ZEpilog : Miscs → Element → Miscs → Zip
+  ZBegun : ZAround → Place → Zip
+  ZBanged : ZAround → Place → Place → Zip
+  ZBangDash : ZAround → Place → Place → Place → Zip
+  ZRemarking : ZAround → Place → Place → Place → Place → Remarks → Zip
+  ZRemarkDash : ZAround → Place → Place → Place → Place → Remarks → Place → Zip
+  ZRemarkEnd : ZAround → Place → Place → Place → Place → Remarks → Place → Place → Zip
+  ZAsked : ZAround → Place → Place → Zip
+  ZTargeting : ZAround → Place → Place → Plain → Zip
+  ZTargetEnd : ZAround → Pointed → Place → Zip
+  ZTelling : ZAround → Pointed → (s : Symbol) → is_blank s.kind ≡ true → (run : Run is_good) → IsUnclosed run → ends_asking run ≡ false → Zip
+  ZTellingAsked : ZAround → Pointed → (s : Symbol) → is_blank s.kind ≡ true → (run : Run is_good) → IsUnclosed run → Place → Zip
+  ZNaming : ZBearer → Plain → Zip
+  ZColoned : ZBearer → Plain → Place → Zip
+  ZLocaling : ZBearer → Plain → Place → Plain → Zip
+  ZSpaced : Opens → Part → Gap → Zip
+  ZValued : Opens → Part → Zip
+  ZShutting : Opens → Tag → Place → Zip
+  ZEqualling : Opens → Part → Gap → QName → Run is_blank → Zip
+  ZOpening : Opens → Part → Gap → QName → Run is_blank → Place → Run is_blank → Zip
+  ZValuing : Opens → Part → (h : Half) → Values h.double → Zip
+  ZEnding : Opens → Tag → Place → Items → Place → Place → Zip
+  ZClosing : Opens → Tag → Place → Items → Place → Place → QName → Run is_blank → Zip
+  ZCitation : ZCiting → Place → ZCited → Zip
+
+abbrev pub value : Zip → State
+value (ZProlog m) = Prolog
+value (ZInside z t g is) = Inside (brackets is) (opened (start_of t) (trees_of is)) (opens_value z)
+value (ZEpilog m e k) = Epilog (tree_of e)
+value (ZBegun a p) = Begun (around_value a) p
+value (ZBanged a p q) = Banged (around_value a) p
+value (ZBangDash a p q r) = BangDash (around_value a) p
+value (ZRemarking a p q r s c) = Remarking (around_value a)
+value (ZRemarkDash a p q r s c t) = RemarkDash (around_value a)
+value (ZRemarkEnd a p q r s c t u) = RemarkEnd (around_value a)
+value (ZAsked a p q) = Asked (around_value a)
+value (ZTargeting a p q n) = Targeting (around_value a) (plain_bytes n)
+value (ZTargetEnd a i q) = TargetEnd (around_value a)
+value (ZTelling a i s b run u h) = Telling false (around_value a)
+value (ZTellingAsked a i s b run u q) = Telling true (around_value a)
+value (ZNaming b n) = Naming (bearer_value b) n.first.at (plain_bytes n)
+value (ZColoned b n c) = Coloned (bearer_value b) n.first.at (plain_bytes n)
+value (ZLocaling b n c m) = Localing (bearer_value b) n.first.at (plain_bytes n) (plain_bytes m)
+value (ZSpaced z t g) = Spaced (opens_value z) (part_start t)
+value (ZValued z t) = Valued (opens_value z) (part_start t)
+value (ZShutting z t s) = Shutting (opens_value z) (start_of t)
+value (ZEqualling z t g n b) = Equalling (opens_value z) (part_start t) (name_of n)
+value (ZOpening z t g n b e c) = Opening (opens_value z) (part_start t) (name_of n)
+value (ZValuing z t h v) = Valuing h.double (opens_value z) (part_start t) (name_of h.name) (value_of v)
+value (ZEnding z t g is p q) = Ending (opened (start_of t) (trees_of is)) (opens_value z)
+value (ZClosing z t g is p q n b) = Closing (opened (start_of t) (trees_of is)) (opens_value z)
+value (ZCitation c p x) = Citation (citing_value c) p (cited_value x)
+
+-- the characters before the rest
+abbrev pub before : Zip → List Symbol → List Symbol
+before (ZProlog m) rest = miscs_spelt m rest
+before (ZInside z t g is) rest = opens_spelt (Opened z t g is) rest
+before (ZEpilog m e k) rest = miscs_spelt m (element_spelt e (miscs_spelt k rest))
+before (ZBegun a p) rest = around_spelt a (mark p Less ∷ rest)
+before (ZBanged a p q) rest = around_spelt a (mark p Less ∷ mark q Bang ∷ rest)
+before (ZBangDash a p q r) rest = around_spelt a (mark p Less ∷ mark q Bang ∷ mark r Dash ∷ rest)
+before (ZRemarking a p q r s c) rest = around_spelt a (mark p Less ∷ mark q Bang ∷ mark r Dash ∷ mark s Dash ∷ remarks_spelt c rest)
+before (ZRemarkDash a p q r s c t) rest = around_spelt a (mark p Less ∷ mark q Bang ∷ mark r Dash ∷ mark s Dash ∷ remarks_spelt c (mark t Dash ∷ rest))
+before (ZRemarkEnd a p q r s c t u) rest = around_spelt a (mark p Less ∷ mark q Bang ∷ mark r Dash ∷ mark s Dash ∷ remarks_spelt c (mark t Dash ∷ mark u Dash ∷ rest))
+before (ZAsked a p q) rest = around_spelt a (mark p Less ∷ mark q Question ∷ rest)
+before (ZTargeting a p q n) rest = around_spelt a (mark p Less ∷ mark q Question ∷ plain_spelt n rest)
+before (ZTargetEnd a i q) rest = around_spelt a (pointed_spelt i (mark q Question ∷ rest))
+before (ZTelling a i s b run u h) rest = around_spelt a (pointed_spelt i (s ∷ spelt run rest))
+before (ZTellingAsked a i s b run u q) rest = around_spelt a (pointed_spelt i (s ∷ spelt run (mark q Question ∷ rest)))
+before (ZNaming b n) rest = bearer_spelt b (plain_spelt n rest)
+before (ZColoned b n c) rest = bearer_spelt b (plain_spelt n (mark c Colon ∷ rest))
+before (ZLocaling b n c m) rest = bearer_spelt b (plain_spelt n (mark c Colon ∷ plain_spelt m rest))
+before (ZSpaced z t g) rest = opens_spelt z (part_spelt t (gap_spelt g rest))
+before (ZValued z t) rest = opens_spelt z (part_spelt t rest)
+before (ZShutting z t s) rest = opens_spelt z (tag_spelt t (mark s Slash ∷ rest))
+before (ZEqualling z t g n b) rest = opens_spelt z (part_spelt t (gap_spelt g (name_spelt n (spelt b rest))))
+before (ZOpening z t g n b e c) rest = opens_spelt z (part_spelt t (gap_spelt g (name_spelt n (spelt b (mark e Equals ∷ spelt c rest)))))
+before (ZValuing z t h v) rest = opens_spelt z (part_spelt t (half_spelt h (values_spelt v rest)))
+before (ZEnding z t g is p q) rest = opens_spelt (Opened z t g is) (mark p Less ∷ mark q Slash ∷ rest)
+before (ZClosing z t g is p q n b) rest = opens_spelt (Opened z t g is) (mark p Less ∷ mark q Slash ∷ name_spelt n (spelt b rest))
+before (ZCitation c p x) rest = citing_spelt c (mark p And ∷ cited_spelt x rest)
+
+module _ (strict : Bool) where
+  abbrev pub OpensFit : Opens → Type 0
+  OpensFit (Bottom m) = Unit {0}
+  OpensFit (Opened z t g is) = OpensFit z × TagFits strict (scope z) t × ItemsFit strict (start_of t ∷ scope z) is
+
+  abbrev pub AroundFit : ZAround → Type 0
+  AroundFit (ZBefore m) = Unit {0}
+  AroundFit (ZWithin z t g is) = OpensFit (Opened z t g is)
+  AroundFit (ZAfter m e k) = ElementFits strict [] e
+
+  abbrev pub PartFits : Opens → Part → Type 0
+  PartFits z t = OpensFit z × (passes strict (is_shallow (scope z)) ≡ true) × AttributesFit strict t.attributes
+
+  abbrev pub BearerFits : ZBearer → Type 0
+  BearerFits (ZStart z p) = OpensFit z × (passes strict (is_shallow (scope z)) ≡ true)
+  BearerFits (ZAttribute z t g) = PartFits z t
+  BearerFits (ZEnd z t g is p q) = OpensFit (Opened z t g is)
+
+  abbrev pub CitingFits : ZCiting → Type 0
+  CitingFits (ZText z t g is) = OpensFit (Opened z t g is)
+  CitingFits (ZValue z t h v) = PartFits z t × ValueFits strict v
+
+  -- the conditions so far
+  abbrev pub Fits : Zip → Type 0
+  Fits (ZProlog m) = Unit {0}
+  Fits (ZInside z t g is) = OpensFit (Opened z t g is)
+  Fits (ZEpilog m e k) = ElementFits strict [] e
+  Fits (ZBegun a p) = AroundFit a
+  Fits (ZBanged a p q) = AroundFit a
+  Fits (ZBangDash a p q r) = AroundFit a
+  Fits (ZRemarking a p q r s c) = AroundFit a
+  Fits (ZRemarkDash a p q r s c t) = AroundFit a
+  Fits (ZRemarkEnd a p q r s c t u) = AroundFit a
+  Fits (ZAsked a p q) = AroundFit a
+  Fits (ZTargeting a p q n) = AroundFit a
+  Fits (ZTargetEnd a i q) = AroundFit a
+  Fits (ZTelling a i s b run u h) = AroundFit a
+  Fits (ZTellingAsked a i s b run u q) = AroundFit a
+  Fits (ZNaming b n) = BearerFits b
+  Fits (ZColoned b n c) = BearerFits b
+  Fits (ZLocaling b n c m) = BearerFits b
+  Fits (ZSpaced z t g) = PartFits z t
+  Fits (ZValued z t) = PartFits z t
+  Fits (ZShutting z t s) = PartFits z (record { less = t.less; name = t.name; attributes = t.attributes })
+  Fits (ZEqualling z t g n b) = PartFits z t
+  Fits (ZOpening z t g n b e c) = PartFits z t
+  Fits (ZValuing z t h v) = PartFits z t × ValueFits strict v
+  Fits (ZEnding z t g is p q) = OpensFit (Opened z t g is)
+  Fits (ZClosing z t g is p q n b) = OpensFit (Opened z t g is) × (passes strict (same_name (name_of n) (name_of t.name)) ≡ true)
+  Fits (ZCitation c p x) = CitingFits c
