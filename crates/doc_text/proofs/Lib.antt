@@ -1,3 +1,4 @@
 pub mod Zipper
 pub mod Sound
 pub mod Completes
+pub mod Runs
