@@ -2,3 +2,4 @@ pub mod Zipper
 pub mod Sound
 pub mod Completes
 pub mod Runs
+pub mod Outcomes
