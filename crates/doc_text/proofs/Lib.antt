@@ -3,3 +3,4 @@ pub mod Sound
 pub mod Completes
 pub mod Runs
 pub mod Outcomes
+pub mod Elements

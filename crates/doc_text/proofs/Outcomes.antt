@@ -63,7 +63,7 @@ module _ (strict : Bool) (end : Place) where
   hexed c p (Letter x) q h = goes_if (is_ex (Letter x)) _ _ h
   hexed c p k q h = absurd (false-true h)
 
-  cites : (r : Reference) (c : Citing) (s : State) → ((p : Place) → step strict s And p ≡ Goes (Citation c p Nameless)) → Outcome (ReferenceFits strict r) (λ e p. ReferenceFails e p r) s (reference_spelt r) (cited c (encode_utf8 (character_of (target_of r))))
+  pub cites : (r : Reference) (c : Citing) (s : State) → ((p : Place) → step strict s And p ≡ Goes (Citation c p Nameless)) → Outcome (ReferenceFits strict r) (λ e p. ReferenceFails e p r) s (reference_spelt r) (cited c (encode_utf8 (character_of (target_of r))))
   cites (EntityRef p n q) c s f =
       led (λ r. mark p And ∷ plain_spelt n r) (λ r. steps strict end s (mark p And) _ _ (f p)
           ∙ steps strict end (Citation c p Nameless) n.first (spelt n.others r) _ (letters (λ k. step strict (Citation c p Nameless) k n.first.at ≡ Goes (Citation c p (ByEntity (utf8 k)))) (λ x. refl) n.first.kind n.starts)
@@ -122,17 +122,17 @@ module _ (strict : Bool) (end : Place) where
       (onward (λ r. mark a.closes (quote a.double) ∷ r) (values_read fs t (name_of a.name) a.value) (λ r. shuts_value a.double fs t (name_of a.name) (value_of a.value) a.closes r))
 
   -- a start tag's name and attributes
-  abbrev tag_state : List Open → Place → QName → Attributes → State
+  abbrev pub tag_state : List Open → Place → QName → Attributes → State
   tag_state fs p n Alone = name_state strict end (OfStart fs p) n
   tag_state fs p n (Further list a) = Valued fs (start p (name_of n) (pairs_of (Further list a)))
 
-  abbrev Stands : Kind → Type 0
+  abbrev pub Stands : Kind → Type 0
   Stands (Blank c) = Unit {0}
   Stands Slash = Unit {0}
   Stands Greater = Unit {0}
   Stands k = ⊥
 
-  tag_step : (fs : List Open) (p : Place) (n : QName) (list : Attributes) (k : Kind) (q : Place) → Stands k → step strict (tag_state fs p n list) k q ≡ tag_goes strict fs (start p (name_of n) (pairs_of list)) k
+  pub tag_step : (fs : List Open) (p : Place) (n : QName) (list : Attributes) (k : Kind) (q : Place) → Stands k → step strict (tag_state fs p n list) k q ≡ tag_goes strict fs (start p (name_of n) (pairs_of list)) k
   tag_step fs p n Alone (Blank c) q h = over strict end (OfStart fs p) n (Blank c) q tt
   tag_step fs p n Alone Slash q h = over strict end (OfStart fs p) n Slash q tt
   tag_step fs p n Alone Greater q h = over strict end (OfStart fs p) n Greater q tt
@@ -141,6 +141,6 @@ module _ (strict : Bool) (end : Place) where
   tag_step fs p n (Further list a) Greater q h = refl
   tag_step fs p n list k q h = absurd h
 
-  attributes_read : (fs : List Open) (p : Place) (n : QName) (list : Attributes) → Outcome (AttributesFit strict list) (λ e q. AttributesFail e q list) (tag_state fs p n Alone) (attributes_spelt list) (tag_state fs p n list)
+  pub attributes_read : (fs : List Open) (p : Place) (n : QName) (list : Attributes) → Outcome (AttributesFit strict list) (λ e q. AttributesFail e q list) (tag_state fs p n Alone) (attributes_spelt list) (tag_state fs p n list)
   attributes_read fs p n Alone = Passes tt (λ r. refl)
   attributes_read fs p n (Further list a) = both (attributes_read fs p n list) (attribute_reads (tag_state fs p n list) fs (start p (name_of n) (pairs_of list)) (λ c q. tag_step fs p n list (Blank c) q tt) a)

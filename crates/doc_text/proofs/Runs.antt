@@ -92,17 +92,28 @@ module _ (strict : Bool) (end : Place) where
   localing : (b : Bearer) (p : Place) (q n : List ℕ) (c : Symbol) → is_name c.kind ≡ true → step strict (Localing b p q n) c.kind c.at ≡ Goes (Localing b p q (n ++ utf8 c.kind))
   localing b p q n c h = names (λ k. step strict (Localing b p q n) k c.at ≡ Goes (Localing b p q (n ++ utf8 k))) (λ x. refl) (λ x. refl) refl c.kind h
 
-  first_part : (s : State) (b : Bearer) → ((c : ℕ) (p : Place) → step strict s (Letter c) p ≡ Goes (Naming b p (utf8 (Letter c)))) → (n : Plain) (r : List Symbol) → Leads s (plain_spelt n r) (Naming b n.first.at (plain_bytes n)) r
-  first_part s b f n r =
-      steps s n.first (spelt n.others r) _ (letters (λ k. step strict s k n.first.at ≡ Goes (Naming b n.first.at (utf8 k))) (λ c. f c n.first.at) n.first.kind n.starts)
-      ∙ gathers (Naming b n.first.at) (naming b n.first.at) n.others (utf8 n.first.kind) r
+  begins : (s : State) (b : Bearer) → ((c : ℕ) (p : Place) → step strict s (Letter c) p ≡ Goes (Naming b p (utf8 (Letter c)))) → (n : Plain) (r : List Symbol) → Leads s (n.first ∷ r) (Naming b n.first.at (utf8 n.first.kind)) r
+  begins s b f n r = steps s n.first r _ (letters (λ k. step strict s k n.first.at ≡ Goes (Naming b n.first.at (utf8 k))) (λ c. f c n.first.at) n.first.kind n.starts)
 
-  pub name_reads : (s : State) (b : Bearer) → ((c : ℕ) (p : Place) → step strict s (Letter c) p ≡ Goes (Naming b p (utf8 (Letter c)))) → (n : QName) (r : List Symbol) → Leads s (name_spelt n r) (name_state b n) r
-  name_reads s b f (Unprefixed n) r = first_part s b f n r
-  name_reads s b f (Prefixed q p n) r =
-      first_part s b f q (mark p Colon ∷ plain_spelt n r)
+  -- a name behind its first character
+  abbrev first_of : QName → Symbol
+  first_of (Unprefixed n) = n.first
+  first_of (Prefixed q p n) = q.first
+
+  abbrev tail_spelt : QName → List Symbol → List Symbol
+  tail_spelt (Unprefixed n) r = spelt n.others r
+  tail_spelt (Prefixed q p n) r = spelt q.others (mark p Colon ∷ plain_spelt n r)
+
+  pub name_goes : (b : Bearer) (n : QName) (r : List Symbol) → Leads (Naming b (first_of n).at (utf8 (first_of n).kind)) (tail_spelt n r) (name_state b n) r
+  name_goes b (Unprefixed n) r = gathers (Naming b n.first.at) (naming b n.first.at) n.others (utf8 n.first.kind) r
+  name_goes b (Prefixed q p n) r =
+      gathers (Naming b q.first.at) (naming b q.first.at) q.others (utf8 q.first.kind) (mark p Colon ∷ plain_spelt n r)
       ∙ steps (Coloned b q.first.at (plain_bytes q)) n.first (spelt n.others r) _ (letters (λ k. step strict (Coloned b q.first.at (plain_bytes q)) k n.first.at ≡ Goes (Localing b q.first.at (plain_bytes q) (utf8 k))) (λ c. refl) n.first.kind n.starts)
       ∙ gathers (Localing b q.first.at (plain_bytes q)) (localing b q.first.at (plain_bytes q)) n.others (utf8 n.first.kind) r
+
+  pub name_reads : (s : State) (b : Bearer) → ((c : ℕ) (p : Place) → step strict s (Letter c) p ≡ Goes (Naming b p (utf8 (Letter c)))) → (n : QName) (r : List Symbol) → Leads s (name_spelt n r) (name_state b n) r
+  name_reads s b f (Unprefixed n) r = begins s b f n (spelt n.others r) ∙ name_goes b (Unprefixed n) r
+  name_reads s b f (Prefixed q p n) r = begins s b f q (spelt q.others (mark p Colon ∷ plain_spelt n r)) ∙ name_goes b (Prefixed q p n) r
 
   -- a name is over
   abbrev pub IsOver : Kind → Type 0

@@ -255,10 +255,13 @@ abbrev pub bracketed : ℕ → Kind → ℕ
 bracketed n Bracket = if nat_eq n 0 then 1 else 2
 bracketed n k = 0
 
+abbrev pub last_brackets : ℕ → Item → ℕ
+last_brackets n (Text s h) = bracketed n s.kind
+last_brackets n i = 0
+
 abbrev pub brackets : Items → ℕ
 brackets Nothing = 0
-brackets (Then is (Text s h)) = bracketed (brackets is) s.kind
-brackets (Then is i) = 0
+brackets (Then is i) = last_brackets (brackets is) i
 
 abbrev pub IsApart : ℕ → Item → Type 0
 IsApart n (Text s h) = is_greater s.kind && nat_eq n 2 ≡ false
