@@ -4,3 +4,4 @@ pub mod Completes
 pub mod Runs
 pub mod Outcomes
 pub mod Elements
+pub mod Texts

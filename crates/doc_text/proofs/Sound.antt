@@ -27,20 +27,20 @@ gap run c p = record { blanks = run; last = mark p (Blank c); ends = refl }
 abbrev tag : Part → Run is_blank → Tag
 tag t run = record { less = t.less; name = t.name; attributes = t.attributes; blanks = run }
 
-module _ (strict : Bool) (rest all : List Symbol) where
+module _ (strict : Bool) (all : List Symbol → List Symbol) where
   -- a state, and what was written before it
   pub record Stands (s : State) : Type 0 where
     pub zip : Zip
     pub is : value zip ≡ s
     pub fits : Fits strict zip
-    pub text : before zip rest ≡ all
+    pub text : (rest : List Symbol) → before zip rest ≡ all rest
 
   abbrev pub StepStands : Step → Type 0
   StepStands (Goes s) = Stands s
   StepStands Stops = Unit {0}
   StepStands (Breaks e p) = Unit {0}
 
-  abbrev to : (z : Zip) → Fits strict z → before z rest ≡ all → Stands (value z)
+  abbrev to : (z : Zip) → Fits strict z → ((rest : List Symbol) → before z rest ≡ all rest) → Stands (value z)
   to z f t = record { zip = z; is = refl; fits = f; text = t }
 
   -- one that is reached where a character passes a test
@@ -53,50 +53,50 @@ module _ (strict : Bool) (rest all : List Symbol) where
   weighs true None x f = f refl
   weighs true (Some g) x f = tt
 
-  back_stands : (a : ZAround) (x : Aside) → AroundFit strict a → around_spelt a (aside_spelt x rest) ≡ all → Stands (back (around_value a))
+  back_stands : (a : ZAround) (x : Aside) → AroundFit strict a → ((rest : List Symbol) → around_spelt a (aside_spelt x rest) ≡ all rest) → Stands (back (around_value a))
   back_stands (ZBefore m) x f t = to (ZProlog (Aided m x)) tt t
   back_stands (ZWithin z u g is) x f t = to (ZInside z u g (Then is (Passed x))) (f.0, f.1, (f.2, tt, tt)) t
   back_stands (ZAfter m e k) x f t = to (ZEpilog m e (Aided k x)) f t
 
-  ended_stands : (z : Opens) (e : Element) → OpensFit strict z → ElementFits strict (scope z) e → opens_spelt z (element_spelt e rest) ≡ all → Stands (ended (opens_value z) (tree_of e))
+  ended_stands : (z : Opens) (e : Element) → OpensFit strict z → ElementFits strict (scope z) e → ((rest : List Symbol) → opens_spelt z (element_spelt e rest) ≡ all rest) → Stands (ended (opens_value z) (tree_of e))
   ended_stands (Bottom m) e f h t = to (ZEpilog m e Bare) h t
   ended_stands (Opened z u g is) e f h t = to (ZInside z u g (Then is (Sub e))) (f.0, f.1, (f.2, h, tt)) t
 
-  tag_stands : (z : Opens) (t : Part) (run : Run is_blank) (k : Kind) (p : Place) → PartFits strict z t → opens_spelt z (part_spelt t (spelt run (mark p k ∷ rest))) ≡ all → StepStands (tag_goes strict (opens_value z) (part_start t) k)
+  tag_stands : (z : Opens) (t : Part) (run : Run is_blank) (k : Kind) (p : Place) → PartFits strict z t → ((rest : List Symbol) → opens_spelt z (part_spelt t (spelt run (mark p k ∷ rest))) ≡ all rest) → StepStands (tag_goes strict (opens_value z) (part_start t) k)
   tag_stands z t run (Blank c) p f h = to (ZSpaced z t (gap run c p)) f h
   tag_stands z t run Slash p f h = to (ZShutting z (tag t run) p) f h
   tag_stands z t run Greater p f h = weighs strict (tag_fault (scope z) (part_start t)) _ (λ s. to (ZInside z (tag t run) p Nothing) (f.0, record { shallow = f.1; attributes = f.2; sound = s }, tt) h)
   tag_stands z t run k p f h = tt
 
-  attribute_stands : (z : Opens) (t : Part) (g : Gap) (n : QName) (run : Run is_blank) (k : Kind) (p : Place) → PartFits strict z t → opens_spelt z (part_spelt t (gap_spelt g (name_spelt n (spelt run (mark p k ∷ rest))))) ≡ all → StepStands (attribute_goes (opens_value z) (part_start t) (name_of n) k)
+  attribute_stands : (z : Opens) (t : Part) (g : Gap) (n : QName) (run : Run is_blank) (k : Kind) (p : Place) → PartFits strict z t → ((rest : List Symbol) → opens_spelt z (part_spelt t (gap_spelt g (name_spelt n (spelt run (mark p k ∷ rest))))) ≡ all rest) → StepStands (attribute_goes (opens_value z) (part_start t) (name_of n) k)
   attribute_stands z t g n run (Blank c) p f h = to (ZEqualling z t g n (More run (mark p (Blank c)) refl)) f h
   attribute_stands z t g n run Equals p f h = to (ZOpening z t g n run p No) f h
   attribute_stands z t g n run k p f h = tt
 
-  end_stands : (z : Opens) (t : Tag) (g : Place) (is : Items) (p q : Place) (n : QName) (run : Run is_blank) (k : Kind) (r : Place) → OpensFit strict (Opened z t g is) → passes strict (same_name (name_of n) (name_of t.name)) ≡ true → opens_spelt (Opened z t g is) (mark p Less ∷ mark q Slash ∷ name_spelt n (spelt run (mark r k ∷ rest))) ≡ all → StepStands (end_goes (opened (start_of t) (trees_of is)) (opens_value z) k)
+  end_stands : (z : Opens) (t : Tag) (g : Place) (is : Items) (p q : Place) (n : QName) (run : Run is_blank) (k : Kind) (r : Place) → OpensFit strict (Opened z t g is) → passes strict (same_name (name_of n) (name_of t.name)) ≡ true → ((rest : List Symbol) → opens_spelt (Opened z t g is) (mark p Less ∷ mark q Slash ∷ name_spelt n (spelt run (mark r k ∷ rest))) ≡ all rest) → StepStands (end_goes (opened (start_of t) (trees_of is)) (opens_value z) k)
   end_stands z t g is p q n run (Blank c) r f m h = to (ZClosing z t g is p q n (More run (mark r (Blank c)) refl)) (f, m) h
   end_stands z t g is p q n run Greater r f m h = ended_stands z (Full t g is (record { less = p; slash = q; name = n; blanks = run; greater = r })) f.0 (f.1, f.2, m) h
   end_stands z t g is p q n run k r f m h = tt
 
-  named_stands : (b : ZBearer) (n : QName) (k : Kind) (p : Place) → BearerFits strict b → bearer_spelt b (name_spelt n (mark p k ∷ rest)) ≡ all → StepStands (named strict (bearer_value b) (name_of n) k)
+  named_stands : (b : ZBearer) (n : QName) (k : Kind) (p : Place) → BearerFits strict b → ((rest : List Symbol) → bearer_spelt b (name_spelt n (mark p k ∷ rest)) ≡ all rest) → StepStands (named strict (bearer_value b) (name_of n) k)
   named_stands (ZStart z q) n k p f h = tag_stands z (record { less = q; name = n; attributes = Alone }) No k p (f.0, f.1, tt) h
   named_stands (ZAttribute z t g) n k p f h = attribute_stands z t g n No k p f h
   named_stands (ZEnd z t g is o q) n k p f h = chooses StepStands (passes strict (same_name (name_of n) (name_of t.name))) _ _ (λ m. end_stands z t g is o q n No k p f m h) (λ m. tt)
 
-  begin_stands : (z : Opens) (p : Place) (c : ℕ) (q : Place) → OpensFit strict z → opens_spelt z (mark p Less ∷ mark q (Letter c) ∷ rest) ≡ all → StepStands (begins_in strict (opens_value z) p (Letter c) q)
+  begin_stands : (z : Opens) (p : Place) (c : ℕ) (q : Place) → OpensFit strict z → ((rest : List Symbol) → opens_spelt z (mark p Less ∷ mark q (Letter c) ∷ rest) ≡ all rest) → StepStands (begins_in strict (opens_value z) p (Letter c) q)
   begin_stands z p c q f h = chooses StepStands (passes strict (is_shallow (scope z))) _ _ (λ s. to (ZNaming (ZStart z p) (letter c q)) (f, s) h) (λ s. tt)
 
-  element_stands : (a : ZAround) (p : Place) (c : ℕ) (q : Place) → AroundFit strict a → around_spelt a (mark p Less ∷ mark q (Letter c) ∷ rest) ≡ all → StepStands (element_begins strict (around_value a) p (Letter c) q)
+  element_stands : (a : ZAround) (p : Place) (c : ℕ) (q : Place) → AroundFit strict a → ((rest : List Symbol) → around_spelt a (mark p Less ∷ mark q (Letter c) ∷ rest) ≡ all rest) → StepStands (element_begins strict (around_value a) p (Letter c) q)
   element_stands (ZBefore m) p c q f h = begin_stands (Bottom m) p c q tt h
   element_stands (ZWithin z t g is) p c q f h = begin_stands (Opened z t g is) p c q f h
   element_stands (ZAfter m e k) p c q f h = tt
 
-  ending_stands : (a : ZAround) (p q : Place) → AroundFit strict a → around_spelt a (mark p Less ∷ mark q Slash ∷ rest) ≡ all → StepStands (end_begins (around_value a))
+  ending_stands : (a : ZAround) (p q : Place) → AroundFit strict a → ((rest : List Symbol) → around_spelt a (mark p Less ∷ mark q Slash ∷ rest) ≡ all rest) → StepStands (end_begins (around_value a))
   ending_stands (ZBefore m) p q f h = tt
   ending_stands (ZWithin z t g is) p q f h = to (ZEnding z t g is p q) f h
   ending_stands (ZAfter m e k) p q f h = tt
 
-  quote_stands : (z : Opens) (t : Part) (g : Gap) (n : QName) (b : Run is_blank) (e : Place) (c : Run is_blank) (k : Kind) (p : Place) → PartFits strict z t → before (ZOpening z t g n b e c) (mark p k ∷ rest) ≡ all → StepStands (opening_quote (opens_value z) (part_start t) (name_of n) k)
+  quote_stands : (z : Opens) (t : Part) (g : Gap) (n : QName) (b : Run is_blank) (e : Place) (c : Run is_blank) (k : Kind) (p : Place) → PartFits strict z t → ((rest : List Symbol) → before (ZOpening z t g n b e c) (mark p k ∷ rest) ≡ all rest) → StepStands (opening_quote (opens_value z) (part_start t) (name_of n) k)
   quote_stands z t g n b e c Quote p f h = to (ZValuing z t (record { gap = g; name = n; before = b; equals = e; after = c; double = true; opens = p }) Empty) (f, tt) h
   quote_stands z t g n b e c Apostrophe p f h = to (ZValuing z t (record { gap = g; name = n; before = b; equals = e; after = c; double = false; opens = p }) Empty) (f, tt) h
   quote_stands z t g n b e c (Blank d) p f h = to (ZOpening z t g n b e (More c (mark p (Blank d)) refl)) f h
@@ -108,7 +108,7 @@ module _ (strict : Bool) (rest all : List Symbol) where
   abbrev closed : Part → (h : Half) → Values h.double → Place → Part
   closed t h v p = record { less = t.less; name = t.name; attributes = Further t.attributes (record { gap = h.gap; name = h.name; before = h.before; equals = h.equals; after = h.after; double = h.double; opens = h.opens; value = v; closes = p }) }
 
-  value_stands : (z : Opens) (t : Part) (g : Gap) (n : QName) (b : Run is_blank) (e : Place) (c : Run is_blank) (d : Bool) (o : Place) (v : Values d) (k : Kind) (p : Place) → Fits strict (ZValuing z t (half g n b e c d o) v) → before (ZValuing z t (half g n b e c d o) v) (mark p k ∷ rest) ≡ all → StepStands (step strict (value (ZValuing z t (half g n b e c d o) v)) k p)
+  value_stands : (z : Opens) (t : Part) (g : Gap) (n : QName) (b : Run is_blank) (e : Place) (c : Run is_blank) (d : Bool) (o : Place) (v : Values d) (k : Kind) (p : Place) → Fits strict (ZValuing z t (half g n b e c d o) v) → ((rest : List Symbol) → before (ZValuing z t (half g n b e c d o) v) (mark p k ∷ rest) ≡ all rest) → StepStands (step strict (value (ZValuing z t (half g n b e c d o) v)) k p)
   value_stands z t g n b e c d o v And p f h = to (ZCitation (ZValue z t (half g n b e c d o) v) p ZNameless) f h
   value_stands z t g n b e c true o v Quote p f h = to (ZValued z (closed t (half g n b e c true o) v p)) (f.0.0, f.0.1, (f.0.2, f.1)) h
   value_stands z t g n b e c false o v Quote p f h = to (ZValuing z t (half g n b e c false o) (Char v (mark p Quote) refl)) f h
@@ -118,11 +118,11 @@ module _ (strict : Bool) (rest all : List Symbol) where
   value_stands z t g n b e c d o v Bad p f h = tt
   value_stands z t g n b e c d o v k p f h = to (ZValuing z t (half g n b e c d o) (Char v (mark p k) refl)) f h
 
-  known_stands : (c : ZCiting) (r : Reference) → CitingFits strict c → citing_spelt c (reference_spelt r rest) ≡ all → StepStands (known strict (citing_value c) (reference_at r) (target_of r))
+  known_stands : (c : ZCiting) (r : Reference) → CitingFits strict c → ((rest : List Symbol) → citing_spelt c (reference_spelt r rest) ≡ all rest) → StepStands (known strict (citing_value c) (reference_at r) (target_of r))
   known_stands (ZText z t g is) r f h = chooses StepStands (passes strict (is_known (target_of r))) _ _ (λ m. to (ZInside z t g (Then is (Referred r))) (f.0, f.1, (f.2, m, tt)) h) (λ m. tt)
   known_stands (ZValue z t a v) r f h = chooses StepStands (passes strict (is_known (target_of r))) _ _ (λ m. to (ZValuing z t a (Refer v r)) (f.0, (f.1, m)) h) (λ m. tt)
 
-  cite_stands : (c : ZCiting) (p : Place) (x : ZCited) (k : Kind) (q : Place) → CitingFits strict c → before (ZCitation c p x) (mark q k ∷ rest) ≡ all → StepStands (cite strict (citing_value c) p (cited_value x) k)
+  cite_stands : (c : ZCiting) (p : Place) (x : ZCited) (k : Kind) (q : Place) → CitingFits strict c → ((rest : List Symbol) → before (ZCitation c p x) (mark q k ∷ rest) ≡ all rest) → StepStands (cite strict (citing_value c) p (cited_value x) k)
   cite_stands c p ZNameless (Letter d) q f h = to (ZCitation c p (ZEntity (letter d q))) f h
   cite_stands c p ZNameless Hash q f h = to (ZCitation c p (ZHashed q)) f h
   cite_stands c p ZNameless k q f h = tt
@@ -135,34 +135,34 @@ module _ (strict : Bool) (rest all : List Symbol) where
   cite_stands c p (ZHexadecimal o x i s e run) Semicolon q f h = known_stands c (HexCharRef p o x i s e run q) f h
   cite_stands c p (ZHexadecimal o x i s e run) k q f h = tests (is_hexadecimal k) (Citation (citing_value c) p (Hexadecimal (one_more 16 (counted 16 (one_more 16 0 s.kind) run) k))) (λ m. to (ZCitation c p (ZHexadecimal o x i s e (More run (mark q k) m))) f h)
 
-  target_stands : (a : ZAround) (p q : Place) (n : Plain) (h : is_reserved (plain_bytes n) ≡ false) (k : Kind) (r : Place) → AroundFit strict a → around_spelt a (mark p Less ∷ mark q Question ∷ plain_spelt n (mark r k ∷ rest)) ≡ all → StepStands (target_goes (around_value a) k)
+  target_stands : (a : ZAround) (p q : Place) (n : Plain) (h : is_reserved (plain_bytes n) ≡ false) (k : Kind) (r : Place) → AroundFit strict a → ((rest : List Symbol) → around_spelt a (mark p Less ∷ mark q Question ∷ plain_spelt n (mark r k ∷ rest)) ≡ all rest) → StepStands (target_goes (around_value a) k)
   target_stands a p q n h (Blank c) r f t = to (ZTelling a (record { less = p; asks = q; target = n; free = h }) (mark r (Blank c)) refl No tt refl) f t
   target_stands a p q n h Question r f t = to (ZTargetEnd a (record { less = p; asks = q; target = n; free = h }) r) f t
   target_stands a p q n h k r f t = tt
 
-  name_part : (b : ZBearer) (n : Plain) (k : Kind) (p : Place) → BearerFits strict b → bearer_spelt b (plain_spelt n (mark p k ∷ rest)) ≡ all → StepStands (if is_name k then Goes (Naming (bearer_value b) n.first.at (plain_bytes n ++ utf8 k)) else named strict (bearer_value b) (called n.first.at [] (plain_bytes n)) k)
+  name_part : (b : ZBearer) (n : Plain) (k : Kind) (p : Place) → BearerFits strict b → ((rest : List Symbol) → bearer_spelt b (plain_spelt n (mark p k ∷ rest)) ≡ all rest) → StepStands (if is_name k then Goes (Naming (bearer_value b) n.first.at (plain_bytes n ++ utf8 k)) else named strict (bearer_value b) (called n.first.at [] (plain_bytes n)) k)
   name_part b n k p f h = chooses StepStands (is_name k) (Goes (Naming (bearer_value b) n.first.at (plain_bytes n ++ utf8 k))) (named strict (bearer_value b) (called n.first.at [] (plain_bytes n)) k) (λ x. to (ZNaming b (with_more n (mark p k) x)) f h) (λ x. named_stands b (Unprefixed n) k p f h)
 
-  inside_stands : (z : Opens) (t : Tag) (g : Place) (is : Items) (k : Kind) (p : Place) → OpensFit strict (Opened z t g is) → opens_spelt (Opened z t g is) (mark p k ∷ rest) ≡ all → StepStands (step strict (value (ZInside z t g is)) k p)
+  inside_stands : (z : Opens) (t : Tag) (g : Place) (is : Items) (k : Kind) (p : Place) → OpensFit strict (Opened z t g is) → ((rest : List Symbol) → opens_spelt (Opened z t g is) (mark p k ∷ rest) ≡ all rest) → StepStands (step strict (value (ZInside z t g is)) k p)
   inside_stands z t g is Less p f h = to (ZBegun (ZWithin z t g is) p) f h
   inside_stands z t g is And p f h = to (ZCitation (ZText z t g is) p ZNameless) f h
   inside_stands z t g is Bad p f h = tt
   inside_stands z t g is Greater p f h = chooses StepStands (nat_eq (brackets is) 2) _ _ (λ m. tt) (λ m. to (ZInside z t g (Then is (Text (mark p Greater) refl))) (f.0, f.1, (f.2, tt, m)) h)
   inside_stands z t g is k p f h = to (ZInside z t g (Then is (Text (mark p k) refl))) (f.0, f.1, (f.2, tt, refl)) h
 
-  telling_stands : (a : ZAround) (i : Pointed) (s : Symbol) (b : is_blank s.kind ≡ true) (run : Run is_good) (u : IsUnclosed run) (e : ends_asking run ≡ false) (k : Kind) (q : Place) → AroundFit strict a → before (ZTelling a i s b run u e) (mark q k ∷ rest) ≡ all → StepStands (telling (around_value a) false k)
+  telling_stands : (a : ZAround) (i : Pointed) (s : Symbol) (b : is_blank s.kind ≡ true) (run : Run is_good) (u : IsUnclosed run) (e : ends_asking run ≡ false) (k : Kind) (q : Place) → AroundFit strict a → ((rest : List Symbol) → before (ZTelling a i s b run u e) (mark q k ∷ rest) ≡ all rest) → StepStands (telling (around_value a) false k)
   telling_stands a i s b run u e Bad q f h = tt
   telling_stands a i s b run u e Question q f h = to (ZTellingAsked a i s b run u q) f h
   telling_stands a i s b run u e Greater q f h = to (ZTelling a i s b (More run (mark q Greater) refl) (u, e) refl) f h
   telling_stands a i s b run u e k q f h = to (ZTelling a i s b (More run (mark q k) refl) (u, refl) refl) f h
 
-  asked_stands : (a : ZAround) (i : Pointed) (s : Symbol) (b : is_blank s.kind ≡ true) (run : Run is_good) (u : IsUnclosed run) (o : Place) (k : Kind) (q : Place) → AroundFit strict a → before (ZTellingAsked a i s b run u o) (mark q k ∷ rest) ≡ all → StepStands (telling (around_value a) true k)
+  asked_stands : (a : ZAround) (i : Pointed) (s : Symbol) (b : is_blank s.kind ≡ true) (run : Run is_good) (u : IsUnclosed run) (o : Place) (k : Kind) (q : Place) → AroundFit strict a → ((rest : List Symbol) → before (ZTellingAsked a i s b run u o) (mark q k ∷ rest) ≡ all rest) → StepStands (telling (around_value a) true k)
   asked_stands a i s b run u o Bad q f h = tt
   asked_stands a i s b run u o Question q f h = to (ZTellingAsked a i s b (More run (mark o Question) refl) (u, refl) q) f h
   asked_stands a i s b run u o Greater q f h = back_stands a (PISaying i.less i.asks i.target i.free s b run u o q) f h
   asked_stands a i s b run u o k q f h = to (ZTelling a i s b (More (More run (mark o Question) refl) (mark q k) refl) ((u, refl), refl) refl) f h
 
-  pub step_stands : (z : Zip) (k : Kind) (p : Place) → Fits strict z → before z (mark p k ∷ rest) ≡ all → StepStands (step strict (value z) k p)
+  pub step_stands : (z : Zip) (k : Kind) (p : Place) → Fits strict z → ((rest : List Symbol) → before z (mark p k ∷ rest) ≡ all rest) → StepStands (step strict (value z) k p)
   step_stands (ZProlog m) Less p f h = to (ZBegun (ZBefore m) p) tt h
   step_stands (ZProlog m) (Blank c) p f h = to (ZProlog (Blanked m (mark p (Blank c)) refl)) tt h
   step_stands (ZProlog m) k p f h = tt
@@ -212,6 +212,10 @@ module _ (strict : Bool) (rest all : List Symbol) where
   step_stands (ZClosing z t g is o q n b) k p f h = end_stands z t g is o q n b k p f.0 f.1 h
   step_stands (ZCitation c o x) k p f h = cite_stands c o x k p f h
 
+-- one character more
+pub steps_on : (strict : Bool) (all : List Symbol → List Symbol) (s : State) (t : Symbol) → Stands strict all s → StepStands strict (λ r. all (t ∷ r)) (step strict s t.kind t.at)
+steps_on strict all s t st = subst (λ u. StepStands strict (λ r. all (t ∷ r)) (step strict u t.kind t.at)) st.is (step_stands strict (λ r. all (t ∷ r)) st.zip t.kind t.at st.fits (λ r. st.text (t ∷ r)))
+
 module _ (strict : Bool) (end : Place) where
   abbrev pub ReadOf : List Symbol → End → Type 0
   ReadOf all (Read t) = IsDocument strict all t
@@ -237,11 +241,11 @@ module _ (strict : Bool) (end : Place) where
   finish_stands (ZLocaling b n c m) all f h = finish_local b n c m all
   finish_stands z all f h = tt
 
-  pub sound : (ss : List Symbol) (s : State) (all : List Symbol) → Stands strict ss all s → ReadOf all (run strict end s ss)
-  sound [] s all st = subst (λ u. ReadOf all (finish strict end u)) st.is (finish_stands st.zip all st.fits st.text)
-  sound (t ∷ ss) s all st = on (λ v. sound ss v all) (step strict s t.kind t.at) (subst (λ u. StepStands strict ss all (step strict u t.kind t.at)) st.is (step_stands strict ss all st.zip t.kind t.at st.fits st.text))
+  pub sound : (ss : List Symbol) (s : State) (all : List Symbol → List Symbol) → Stands strict all s → ReadOf (all ss) (run strict end s ss)
+  sound [] s all st = subst (λ u. ReadOf (all []) (finish strict end u)) st.is (finish_stands st.zip (all []) st.fits (st.text []))
+  sound (t ∷ ss) s all st = on (λ v. sound ss v (λ r. all (t ∷ r))) (step strict s t.kind t.at) (steps_on strict all s t st)
     where
-      on : ((v : State) → Stands strict ss all v → ReadOf all (run strict end v ss)) → (u : Step) → StepStands strict ss all u → ReadOf all (after u (reason end s (t ∷ ss)) (λ v. run strict end v ss))
+      on : ((v : State) → Stands strict (λ r. all (t ∷ r)) v → ReadOf (all (t ∷ ss)) (run strict end v ss)) → (u : Step) → StepStands strict (λ r. all (t ∷ r)) u → ReadOf (all (t ∷ ss)) (after u (reason end s (t ∷ ss)) (λ v. run strict end v ss))
       on again Stops h = tt
       on again (Breaks e p) h = tt
       on again (Goes v) h = again v h
