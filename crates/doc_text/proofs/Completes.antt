@@ -1,12 +1,12 @@
 -- What can be read on from each state, by the form alone.
-use Rattle.std.proofs.Common.{◌≡◌, ℕ, List, [], ◌∷◌, ◌++◌, refl, sym, ap, ◌∙◌, subst, arith}
+use Rattle.std.proofs.Common.{◌≡◌, ℕ, List, [], ◌∷◌, ◌++◌, refl, sym, ◌∙◌, subst, arith}
 use Rattle.std.proofs.lemmas.Str.{encode_ascii}
-use Rattle.std.specs.Prelude.{Bool, true, false, if◌then◌else◌}
+use Rattle.std.specs.Prelude.{Bool, true, false}
 use Rattle.atl_base.specs.declared.place.Place.{Place}
-use Rattle.doc_text.specs.Symbols.{Kind, Less, Greater, Slash, And, Semicolon, Quote, Equals, Question, Dash, Letter, Joint, Symbol, mark, utf8, quote}
-use Rattle.doc_text.specs.Raw.{Name, called, Start, start, Tree, Node, Trees, Nil, Also}
+use Rattle.doc_text.specs.Symbols.{Kind, Less, Greater, Slash, Semicolon, Quote, Equals, Question, Dash, Letter, Joint, Symbol, mark, utf8, quote}
+use Rattle.doc_text.specs.Raw.{Name, called, Start, start, Tree, Node, Nil, Also}
 use Rattle.doc_text.specs.Form.{is_reserved}
-use Rattle.doc_text.specs.Machine.{Open, opened, Around, Before, Within, After, Bearer, OfStart, OfAttribute, OfEnd, Citing, InText, InValue, Cited, Nameless, ByEntity, Hashed, Decimal, Hexed, Hexadecimal, State, Prolog, Inside, Epilog, Begun, Banged, BangDash, Remarking, RemarkDash, RemarkEnd, Asked, Targeting, TargetEnd, Telling, Naming, Coloned, Localing, Spaced, Valued, Shutting, Equalling, Opening, Valuing, Ending, Closing, Citation, back, ended, cited, further, target_goes, after, reason, run, End, Read}
+use Rattle.doc_text.specs.Machine.{Open, Around, Before, Within, After, Bearer, OfStart, OfAttribute, OfEnd, Citing, InText, InValue, Cited, Nameless, ByEntity, Hashed, Decimal, Hexed, Hexadecimal, State, Prolog, Inside, Epilog, Begun, Banged, BangDash, Remarking, RemarkDash, RemarkEnd, Asked, Targeting, TargetEnd, Telling, Naming, Coloned, Localing, Spaced, Valued, Shutting, Equalling, Opening, Valuing, Ending, Closing, Citation, back, ended, cited, further, run, Read}
 
 module _ (end : Place) where
   abbrev pub Ends : State → Type 0

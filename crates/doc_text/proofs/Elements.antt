@@ -1,14 +1,14 @@
 -- What is written is read, or breaks where a condition fails in it: tags, elements and documents.
-use Rattle.std.proofs.Common.{◌≡◌, ℕ, List, [], ◌∷◌, ◌++◌, refl, sym, ap, ◌∙◌, subst, inl, inr}
-use Rattle.std.specs.Prelude.{Bool, true, false, if◌then◌else◌, ◌⊎◌, ◌&&◌, nat_eq, Option, Some, None, is_none}
+use Rattle.std.proofs.Common.{◌≡◌, ℕ, List, [], ◌∷◌, refl, ap, ◌∙◌, inl, inr}
+use Rattle.std.specs.Prelude.{Bool, true, false, ◌⊎◌, ◌&&◌, nat_eq, Option, Some, None, is_none}
 use Rattle.atl_base.specs.declared.place.Place.{Place}
 use Rattle.doc_text.specs.Symbols.{Kind, Less, Greater, Slash, And, Colon, Blank, Letter, Bad, Symbol, mark, utf8, is_blank, is_text, is_greater}
-use Rattle.doc_text.specs.Raw.{Start, start, same_name, Tree, Node, Trees, Nil}
+use Rattle.doc_text.specs.Raw.{Start, start, same_name, Node, Trees, Nil}
 use Rattle.doc_text.specs.Faults.{Fault, TooDeep, MismatchedEnd}
 use Rattle.doc_text.specs.Namespaces.{tag_fault}
-use Rattle.doc_text.specs.Form.{Run, No, More, spelt, plain_spelt, QName, Unprefixed, Prefixed, name_spelt, name_of, Attributes, attributes_spelt, pairs_of, Tag, tag_spelt, start_of, ETag, end_spelt, Element, Full, EmptyElem, element_spelt, Items, Nothing, Then, items_spelt, Item, Sub, Text, Referred, Passed, item_spelt, tree_of, trees_of, grown, bracketed, last_brackets, brackets, IsApart, miscs_spelt, Document, document_spelt}
+use Rattle.doc_text.specs.Form.{Run, No, More, spelt, plain_spelt, QName, Unprefixed, Prefixed, name_spelt, name_of, Attributes, pairs_of, Tag, tag_spelt, start_of, ETag, end_spelt, Element, Full, EmptyElem, element_spelt, Items, Nothing, Then, items_spelt, Item, Sub, Text, Referred, Passed, item_spelt, tree_of, trees_of, grown, bracketed, last_brackets, brackets, IsApart, miscs_spelt, Document, document_spelt}
 use Rattle.doc_text.specs.Conditions.{passes, is_shallow, is_sound, TagFits, AttributesFit, ElementFits, ItemsFit, ItemFits, AttributesFail, TagFails, ElementFails, ItemsFail, ItemFails}
-use Rattle.doc_text.specs.Machine.{Open, opened, tags, grow, Around, Before, Within, Bearer, OfStart, OfEnd, InText, State, Prolog, Inside, Begun, Naming, Spaced, Shutting, Ending, Closing, Step, Goes, Stops, Breaks, ended, weighed, tag_goes, end_goes, named, begins_in, element_begins, step, End, Read, Refused, run, read}
+use Rattle.doc_text.specs.Machine.{Open, opened, tags, grow, Around, Before, Within, OfStart, OfEnd, InText, State, Prolog, Inside, Begun, Naming, Spaced, Shutting, Ending, Closing, Step, Goes, ended, weighed, tag_goes, begins_in, element_begins, step, Read, Refused, run, read}
 use Rattle.doc_text.proofs.Runs.{false-true, true-false, letters, goes_if, goes_else, Leads, steps, breaks, gaps, optional, breaks_first, name_state, name_reads, name_goes, over, aside_reads, prolog_reads, epilog_reads}
 use Rattle.doc_text.proofs.Outcomes.{failed, Outcome, Passes, Fails, both, turned, led, onward, decide, cites, tag_state, tag_step, attributes_read}
 

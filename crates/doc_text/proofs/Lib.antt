@@ -5,3 +5,6 @@ pub mod Runs
 pub mod Outcomes
 pub mod Elements
 pub mod Texts
+pub mod Meets
+pub mod Agrees
+pub mod Main

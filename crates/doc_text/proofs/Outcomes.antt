@@ -1,15 +1,14 @@
 -- What is written is read, or breaks where a condition fails in it: references, values and start tags.
-use Rattle.std.proofs.Common.{◌≡◌, ℕ, List, [], ◌∷◌, ◌++◌, refl, sym, ap, ◌∙◌, subst, inl, inr}
-use Rattle.std.specs.Prelude.{Bool, true, false, if◌then◌else◌, ◌⊎◌, Option, Some, None, is_none, encode_utf8}
+use Rattle.std.proofs.Common.{◌≡◌, ℕ, List, [], ◌∷◌, ◌++◌, refl, ◌∙◌, inl, inr}
+use Rattle.std.specs.Prelude.{Bool, true, false, if◌then◌else◌, ◌⊎◌, encode_utf8}
 use Rattle.atl_base.specs.declared.place.Place.{Place}
-use Rattle.doc_text.specs.Symbols.{Kind, Less, Greater, Slash, And, Semicolon, Quote, Apostrophe, Equals, Hash, Blank, Letter, Joint, Bad, Symbol, mark, utf8, quote, is_start, is_blank, is_name, is_value, is_decimal, is_ex, is_hexadecimal}
-use Rattle.doc_text.specs.Raw.{Name, called, Start, start, Tree, Node, Nil}
-use Rattle.doc_text.specs.Faults.{Fault, TooDeep}
-use Rattle.doc_text.specs.Namespaces.{tag_fault}
-use Rattle.doc_text.specs.Form.{Run, No, More, spelt, joined, gap_spelt, plain_spelt, plain_bytes, QName, Unprefixed, Prefixed, name_spelt, name_of, one_more, counted, Reference, EntityRef, CharRef, HexCharRef, reference_spelt, reference_at, Target, ByName, ByNumber, target_of, character_of, Values, Empty, Char, Refer, values_spelt, value_of, value_bytes, Attribute, attribute_spelt, Attributes, Alone, Further, attributes_spelt, pairs_of, Tag, tag_spelt, start_of}
-use Rattle.doc_text.specs.Conditions.{passes, is_known, unknown, is_shallow, is_sound, ReferenceFits, ValueFits, AttributesFit, TagFits, ReferenceFails, ValueFails, AttributesFail, TagFails}
-use Rattle.doc_text.specs.Machine.{Open, opened, tags, Around, Bearer, OfStart, OfAttribute, Citing, InValue, Cited, Nameless, ByEntity, Hashed, Decimal, Hexed, Hexadecimal, State, Inside, Begun, Spaced, Valued, Shutting, Equalling, Opening, Valuing, Citation, Step, Goes, Stops, Breaks, ended, cited, further, weighed, judged, tag_goes, in_value, begins_in, element_begins, step, End, Refused, reason, run}
-use Rattle.doc_text.proofs.Runs.{false-true, true-false, blanks, letters, names, decimals, hexadecimals, goes_if, goes_else, Leads, steps, breaks, gaps, optional, breaks_first, name_state, gathers, name_reads, over, IsOver}
+use Rattle.doc_text.specs.Symbols.{Kind, Less, Greater, Slash, And, Semicolon, Quote, Apostrophe, Equals, Hash, Blank, Letter, Joint, Bad, Symbol, mark, utf8, quote, is_blank, is_name, is_value, is_decimal, is_ex, is_hexadecimal}
+use Rattle.doc_text.specs.Raw.{Name, Start, start}
+use Rattle.doc_text.specs.Faults.{Fault}
+use Rattle.doc_text.specs.Form.{Run, No, More, spelt, gap_spelt, plain_spelt, plain_bytes, QName, name_spelt, name_of, one_more, counted, Reference, EntityRef, CharRef, HexCharRef, reference_spelt, ByName, target_of, character_of, Values, Empty, Char, Refer, values_spelt, value_of, value_bytes, Attribute, attribute_spelt, Attributes, Alone, Further, attributes_spelt, pairs_of}
+use Rattle.doc_text.specs.Conditions.{passes, is_known, ReferenceFits, ValueFits, AttributesFit, ReferenceFails, ValueFails, AttributesFail}
+use Rattle.doc_text.specs.Machine.{Open, OfStart, OfAttribute, Citing, InValue, Nameless, ByEntity, Hashed, Decimal, Hexed, Hexadecimal, State, Spaced, Valued, Equalling, Opening, Valuing, Citation, Goes, Breaks, cited, further, tag_goes, step, Refused, run}
+use Rattle.doc_text.proofs.Runs.{false-true, true-false, letters, names, decimals, hexadecimals, goes_if, goes_else, Leads, steps, breaks, gaps, optional, name_state, gathers, name_reads, over}
 
 pub failed : (strict t : Bool) → passes strict t ≡ false → (strict ≡ true) × (t ≡ false)
 failed false t h = absurd (true-false h)

@@ -1,13 +1,12 @@
 -- What is written is read: runs of characters, and what has no conditions.
-use Rattle.std.proofs.Common.{◌≡◌, ℕ, List, [], ◌∷◌, ◌++◌, refl, sym, ap, ◌∙◌, subst}
+use Rattle.std.proofs.Common.{◌≡◌, ℕ, List, ◌∷◌, ◌++◌, refl, sym, ap, ◌∙◌, subst}
 use Rattle.std.specs.Prelude.{Bool, true, false, if◌then◌else◌, ◌&&◌}
-use Rattle.std.specs.Int.{is_in_range}
 use Rattle.atl_base.specs.declared.place.Place.{Place}
-use Rattle.doc_text.specs.Symbols.{Kind, Less, Greater, Slash, And, Semicolon, Quote, Apostrophe, Equals, Bang, Question, Hash, Colon, Dash, Blank, Letter, Joint, Bad, Symbol, mark, utf8, quote, is_good, is_blank, is_start, is_name, is_undashed, is_value, is_greater, is_question, is_decimal, is_ex, is_hexadecimal}
-use Rattle.doc_text.specs.Raw.{Name, called, Start, Tree}
+use Rattle.doc_text.specs.Symbols.{Kind, Less, Greater, Slash, Equals, Question, Colon, Dash, Blank, Letter, Joint, Bad, Symbol, mark, utf8, is_good, is_blank, is_start, is_name, is_undashed, is_greater, is_question, is_decimal, is_hexadecimal}
+use Rattle.doc_text.specs.Raw.{Tree}
 use Rattle.doc_text.specs.Faults.{Fault}
-use Rattle.doc_text.specs.Form.{Run, No, More, spelt, joined, Plain, plain_spelt, plain_bytes, QName, Unprefixed, Prefixed, name_spelt, name_of, one_more, counted, Remarks, Silent, Undashed, Dashed, remarks_spelt, ends_asking, IsUnclosed, is_reserved, Aside, Comment, PI, PISaying, aside_spelt, Miscs, Bare, Blanked, Aided, miscs_spelt}
-use Rattle.doc_text.specs.Machine.{Open, Around, Before, Within, After, Bearer, OfStart, OfAttribute, OfEnd, Citing, Cited, Decimal, Hexadecimal, ByEntity, State, Prolog, Inside, Epilog, Begun, Asked, Targeting, TargetEnd, Telling, Naming, Coloned, Localing, Remarking, RemarkDash, Citation, Valuing, Step, Goes, Stops, Breaks, back, target_goes, telling, in_value, named, step, End, Refused, after, reason, run}
+use Rattle.doc_text.specs.Form.{Run, No, More, spelt, joined, Plain, plain_spelt, plain_bytes, QName, Unprefixed, Prefixed, name_spelt, name_of, Remarks, Silent, Undashed, Dashed, remarks_spelt, ends_asking, IsUnclosed, is_reserved, Aside, Comment, PI, PISaying, aside_spelt, Miscs, Bare, Blanked, Aided, miscs_spelt}
+use Rattle.doc_text.specs.Machine.{Around, Before, After, Bearer, State, Prolog, Epilog, Begun, Asked, Targeting, TargetEnd, Telling, Naming, Coloned, Localing, Remarking, RemarkDash, Step, Goes, Breaks, back, telling, named, step, End, Refused, after, reason, run}
 
 abbrev IsNot : Bool → Type 0
 IsNot true = ⊥

@@ -1,15 +1,15 @@
 -- What is read was written.
-use Rattle.std.proofs.Common.{◌≡◌, ℕ, List, [], ◌∷◌, ◌++◌, refl, sym, ap, ◌∙◌, subst}
+use Rattle.std.proofs.Common.{◌≡◌, ℕ, List, [], ◌∷◌, ◌++◌, refl, subst}
 use Rattle.std.specs.Prelude.{Bool, true, false, if◌then◌else◌, nat_eq, is_none, Option, Some, None}
 use Rattle.atl_base.specs.declared.place.Place.{Place}
-use Rattle.doc_text.specs.Symbols.{Kind, Less, Greater, Slash, And, Semicolon, Quote, Apostrophe, Equals, Bang, Question, Hash, Colon, Dash, Blank, Letter, Joint, Bad, Symbol, mark, utf8, is_good, is_blank, is_name, is_value, is_decimal, is_ex, is_hexadecimal}
-use Rattle.doc_text.specs.Raw.{called, same_name, Tree}
-use Rattle.doc_text.specs.Faults.{Fault, MismatchedEnd, TooDeep}
+use Rattle.doc_text.specs.Symbols.{Kind, Less, Greater, Slash, And, Semicolon, Quote, Apostrophe, Equals, Bang, Question, Hash, Colon, Dash, Blank, Letter, Bad, Symbol, mark, utf8, is_good, is_blank, is_name, is_decimal, is_ex, is_hexadecimal}
+use Rattle.doc_text.specs.Raw.{called, same_name}
+use Rattle.doc_text.specs.Faults.{Fault, MismatchedEnd}
 use Rattle.doc_text.specs.Namespaces.{tag_fault}
-use Rattle.doc_text.specs.Form.{Run, No, More, spelt, Plain, plain_spelt, plain_bytes, QName, Unprefixed, Prefixed, name_spelt, name_of, one_more, counted, Reference, EntityRef, CharRef, HexCharRef, reference_spelt, reference_at, target_of, Values, Empty, Char, Refer, values_spelt, Gap, gap_spelt, Attribute, Attributes, Alone, Further, Tag, tag_spelt, start_of, ETag, Remarks, Silent, Undashed, Dashed, ends_asking, IsUnclosed, is_reserved, Aside, Comment, PI, PISaying, aside_spelt, Miscs, Bare, Blanked, Aided, miscs_spelt, Element, Full, EmptyElem, element_spelt, Items, Nothing, Then, Item, Sub, Text, Referred, Passed, items_spelt, tree_of, trees_of, brackets, Document, document_spelt}
-use Rattle.doc_text.specs.Conditions.{passes, is_known, is_shallow, is_sound, TagFits, ElementFits, IsDocument}
-use Rattle.doc_text.specs.Machine.{Open, opened, ByEntity, Decimal, Hexed, Hexadecimal, State, Naming, Citation, Step, Goes, Stops, Breaks, back, ended, cited, weighed, end_begins, opening_quote, attribute_goes, end_goes, target_goes, telling, in_value, judged, tag_goes, matched, named, shallow, begins_in, element_begins, known, cite, step, End, Read, Refused, after, finish, reason, run}
-use Rattle.doc_text.proofs.Zipper.{Opens, Bottom, Opened, opens_value, scope, opens_spelt, ZAround, ZBefore, ZWithin, ZAfter, around_value, around_spelt, Part, part_spelt, part_start, Half, half_spelt, ZBearer, ZStart, ZAttribute, ZEnd, bearer_value, bearer_spelt, ZCiting, ZText, ZValue, citing_value, citing_spelt, ZCited, ZNameless, ZEntity, ZHashed, ZDecimal, ZHexed, ZHexadecimal, cited_value, cited_spelt, Pointed, pointed_spelt, Zip, ZProlog, ZInside, ZEpilog, ZBegun, ZBanged, ZBangDash, ZRemarking, ZRemarkDash, ZRemarkEnd, ZAsked, ZTargeting, ZTargetEnd, ZTelling, ZTellingAsked, ZNaming, ZColoned, ZLocaling, ZSpaced, ZValued, ZShutting, ZEqualling, ZOpening, ZValuing, ZEnding, ZClosing, ZCitation, value, before, OpensFit, AroundFit, PartFits, BearerFits, CitingFits, Fits}
+use Rattle.doc_text.specs.Form.{Run, No, More, spelt, Plain, plain_spelt, plain_bytes, QName, Unprefixed, Prefixed, name_spelt, name_of, one_more, counted, Reference, EntityRef, CharRef, HexCharRef, reference_spelt, reference_at, target_of, Values, Empty, Char, Refer, Gap, gap_spelt, Alone, Further, Tag, start_of, Silent, Undashed, Dashed, ends_asking, IsUnclosed, is_reserved, Aside, Comment, PI, PISaying, aside_spelt, Bare, Blanked, Aided, Element, Full, EmptyElem, element_spelt, Items, Nothing, Then, Sub, Text, Referred, Passed, tree_of, trees_of, brackets}
+use Rattle.doc_text.specs.Conditions.{passes, is_known, is_shallow, ElementFits, IsDocument}
+use Rattle.doc_text.specs.Machine.{opened, ByEntity, Decimal, Hexed, Hexadecimal, State, Naming, Citation, Step, Goes, Stops, Breaks, back, ended, weighed, end_begins, opening_quote, attribute_goes, end_goes, target_goes, telling, tag_goes, named, begins_in, element_begins, known, cite, step, End, Read, Refused, after, finish, reason, run}
+use Rattle.doc_text.proofs.Zipper.{Opens, Bottom, Opened, opens_value, scope, opens_spelt, ZAround, ZBefore, ZWithin, ZAfter, around_value, around_spelt, Part, part_spelt, part_start, Half, ZBearer, ZStart, ZAttribute, ZEnd, bearer_value, bearer_spelt, ZCiting, ZText, ZValue, citing_value, citing_spelt, ZCited, ZNameless, ZEntity, ZHashed, ZDecimal, ZHexed, ZHexadecimal, cited_value, Pointed, Zip, ZProlog, ZInside, ZEpilog, ZBegun, ZBanged, ZBangDash, ZRemarking, ZRemarkDash, ZRemarkEnd, ZAsked, ZTargeting, ZTargetEnd, ZTelling, ZTellingAsked, ZNaming, ZColoned, ZLocaling, ZSpaced, ZValued, ZShutting, ZEqualling, ZOpening, ZValuing, ZEnding, ZClosing, ZCitation, value, before, OpensFit, AroundFit, PartFits, BearerFits, CitingFits, Fits}
 
 pub chooses : (P : Step → Type 0) (t : Bool) (x y : Step) → (t ≡ true → P x) → (t ≡ false → P y) → P (if t then x else y)
 chooses P true x y f g = f refl

@@ -1,7 +1,6 @@
 -- What is written stands before the rest: the rest may be cut anywhere.
-use Rattle.std.proofs.Common.{◌≡◌, List, [], ◌∷◌, ◌++◌, refl, sym, ap, ◌∙◌}
+use Rattle.std.proofs.Common.{◌≡◌, List, ◌∷◌, ◌++◌, refl, ap, ◌∙◌}
 use Rattle.std.specs.Prelude.{Bool}
-use Rattle.atl_base.specs.declared.place.Place.{Place}
 use Rattle.doc_text.specs.Symbols.{Kind, Less, Greater, Slash, And, Semicolon, Equals, Question, Bang, Hash, Colon, Dash, Symbol, mark, quote}
 use Rattle.doc_text.specs.Form.{Run, No, More, spelt, Plain, plain_spelt, QName, Unprefixed, Prefixed, name_spelt, Reference, EntityRef, CharRef, HexCharRef, reference_spelt, Values, Empty, Char, Refer, values_spelt, Attribute, attribute_spelt, Attributes, Alone, Further, attributes_spelt, Tag, tag_spelt, ETag, end_spelt, Remarks, Silent, Undashed, Dashed, remarks_spelt, Aside, Comment, PI, PISaying, aside_spelt, Miscs, Bare, Blanked, Aided, miscs_spelt, Element, Full, EmptyElem, element_spelt, Items, Nothing, Then, items_spelt, Item, Sub, Text, Referred, Passed, item_spelt}
 use Rattle.doc_text.proofs.Zipper.{Opens, Bottom, Opened, opens_spelt, ZAround, ZBefore, ZWithin, ZAfter, around_spelt}

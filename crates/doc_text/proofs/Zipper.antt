@@ -1,9 +1,9 @@
 -- What has been written where reading stands: for each state of the machine the parts of the form that came before.
-use Rattle.std.specs.Prelude.{ℕ, ◌≡◌, List, [], ◌∷◌, ◌++◌, Bool, true, false}
+use Rattle.std.specs.Prelude.{◌≡◌, List, [], ◌∷◌, Bool, true, false}
 use Rattle.atl_base.specs.declared.place.Place.{Place}
-use Rattle.doc_text.specs.Symbols.{Kind, Less, Greater, Slash, And, Equals, Bang, Question, Hash, Colon, Dash, Symbol, mark, utf8, quote, is_blank, is_good, is_name, is_decimal, is_ex, is_hexadecimal}
-use Rattle.doc_text.specs.Raw.{Name, called, Start, start, same_name}
-use Rattle.doc_text.specs.Form.{Run, No, More, spelt, joined, Plain, plain_spelt, plain_bytes, QName, Unprefixed, Prefixed, name_spelt, name_of, one_more, counted, Values, values_spelt, value_of, Gap, gap_spelt, Attributes, attributes_spelt, pairs_of, Tag, tag_spelt, start_of, Remarks, remarks_spelt, ends_asking, IsUnclosed, is_reserved, Miscs, miscs_spelt, Element, element_spelt, Items, items_spelt, tree_of, trees_of, brackets}
+use Rattle.doc_text.specs.Symbols.{Less, Greater, Slash, And, Equals, Bang, Question, Hash, Colon, Dash, Symbol, mark, quote, is_blank, is_good, is_decimal, is_ex, is_hexadecimal}
+use Rattle.doc_text.specs.Raw.{Start, start, same_name}
+use Rattle.doc_text.specs.Form.{Run, spelt, Plain, plain_spelt, plain_bytes, QName, name_spelt, name_of, one_more, counted, Values, values_spelt, value_of, Gap, gap_spelt, Attributes, attributes_spelt, pairs_of, Tag, tag_spelt, start_of, Remarks, remarks_spelt, ends_asking, IsUnclosed, is_reserved, Miscs, miscs_spelt, Element, element_spelt, Items, items_spelt, tree_of, trees_of, brackets}
 use Rattle.doc_text.specs.Conditions.{passes, is_shallow, AttributesFit, ValueFits, TagFits, ElementFits, ItemsFit}
 use Rattle.doc_text.specs.Machine.{Open, opened, tags, Around, Before, Within, After, Bearer, OfStart, OfAttribute, OfEnd, Citing, InText, InValue, Cited, Nameless, ByEntity, Hashed, Decimal, Hexed, Hexadecimal, State, Prolog, Inside, Epilog, Begun, Banged, BangDash, Remarking, RemarkDash, RemarkEnd, Asked, Targeting, TargetEnd, Telling, Naming, Coloned, Localing, Spaced, Valued, Shutting, Equalling, Opening, Valuing, Ending, Closing, Citation}
 

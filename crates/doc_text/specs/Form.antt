@@ -1,6 +1,6 @@
 -- What is written in a document, production by production of XML 1.0 (and Namespaces in XML 1.0 for names), with its
 -- characters and what it means. `spelt x rest` are the characters of x and then the rest.
-use Rattle.std.specs.Prelude.{ℕ, ◌+◌, ◌*◌, ◌≡◌, ◌&&◌, ◌||◌, ◌==◌, min, map, nat_le, encode_utf8, List, [], ◌∷◌, ◌++◌, Bool, true, false, if◌then◌else◌, nat_eq, codes, bytes_eq}
+use Rattle.std.specs.Prelude.{ℕ, ◌+◌, ◌*◌, ◌≡◌, ◌&&◌, ◌||◌, ◌==◌, min, encode_utf8, List, [], ◌∷◌, ◌++◌, Bool, true, false, if◌then◌else◌, nat_eq, codes, bytes_eq}
 use Rattle.atl_base.specs.declared.place.Place.{Place}
 use Rattle.doc_text.specs.Symbols.{Kind, Less, Greater, Slash, And, Semicolon, Equals, Bang, Question, Bracket, Hash, Colon, Dash, Blank, Symbol, mark, utf8, is_good, is_blank, is_start, is_name, is_greater, is_question, is_undashed, is_text, is_value, is_decimal, is_ex, is_hexadecimal, digit, quote}
 use Rattle.doc_text.specs.Raw.{Name, called, Pair, pair, Start, start, Tree, Node, Trees, Nil, Also, add_text}

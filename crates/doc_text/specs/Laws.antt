@@ -46,7 +46,7 @@ pub data Lead : List Symbol → Type 0 where
 abbrev pub Because : Place → List Symbol → List Symbol → Fault → Place → Type 0
 Because end front rest Expected p = IsGood rest × (p ≡ place_of end rest)
 Because end front rest BadByte p = IsBad rest × (p ≡ place_of end rest)
-Because end front rest Trailing p = (document : List Symbol) × (lead : List Symbol) × (t : Tree) × (front ≡ document ++ lead) × IsDocument false document t × Lead lead × (p ≡ place_of end (lead ++ rest))
+Because end front rest Trailing p = (document : List Symbol) × (lead : List Symbol) × (t : Tree) × (front ≡ document ++ lead) × IsDocument true document t × Lead lead × (p ≡ place_of end (lead ++ rest))
 Because end front rest Unsupported p = (before : List Symbol) × (q : Place) × (front ≡ before ++ (mark p Less ∷ mark q Bang ∷ [])) × (declares rest ≡ true)
 Because end front rest e p = ⊥
 

@@ -1,4 +1,5 @@
 //! Documents: the trees of the XML profile that models, metamodels and code files are written in.
 #![tactic(auto)]
 
+pub mod laws;
 pub mod tree;
