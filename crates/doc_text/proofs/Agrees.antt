@@ -2,13 +2,13 @@
 use Rattle.std.proofs.Common.{◌≡◌, ℕ, List, [], ◌∷◌, ◌++◌, refl}
 use Rattle.std.specs.Prelude.{Bool, true, false, if◌then◌else◌, Option, Some, None}
 use Rattle.atl_base.specs.declared.place.Place.{Place}
-use Rattle.doc_text.specs.Symbols.{Kind, Greater, Slash, Semicolon, Colon, Blank, Letter, utf8, is_name}
+use Rattle.doc_text.specs.Symbols.{Kind, Greater, Slash, Semicolon, Colon, Blank, Letter, utf8, is_name, is_quote, is_good}
 use Rattle.doc_text.specs.Raw.{Name, called, Start, start, same_name, Node, Nil}
-use Rattle.doc_text.specs.Faults.{Fault, MismatchedEnd, TooDeep}
+use Rattle.doc_text.specs.Faults.{Fault, MismatchedEnd, TooDeep, BadEncoding}
 use Rattle.doc_text.specs.Namespaces.{tag_fault}
-use Rattle.doc_text.specs.Form.{Target, ByName, ByNumber}
-use Rattle.doc_text.specs.Conditions.{is_known, unknown, is_shallow}
-use Rattle.doc_text.specs.Machine.{Open, opened, tags, Around, Before, Within, After, Bearer, OfStart, OfAttribute, OfEnd, Citing, Cited, Nameless, ByEntity, Hashed, Decimal, Hexed, Hexadecimal, State, Inside, Begun, Naming, Localing, Spaced, Valued, Shutting, Citation, Step, Goes, Stops, Breaks, ended, weighed, tag_goes, end_goes, attribute_goes, named, element_begins, begins_in, known, cite, step}
+use Rattle.doc_text.specs.Form.{Target, ByName, ByNumber, place_or}
+use Rattle.doc_text.specs.Conditions.{is_known, unknown, is_shallow, is_encoding}
+use Rattle.doc_text.specs.Machine.{Open, opened, tags, Around, Before, Within, After, Bearer, OfStart, OfAttribute, OfEnd, Citing, Cited, Nameless, ByEntity, Hashed, Decimal, Hexed, Hexadecimal, State, Inside, Begun, Naming, Localing, Spaced, Valued, Shutting, Citation, Step, Goes, Stops, Breaks, ended, weighed, tag_goes, end_goes, attribute_goes, named, element_begins, begins_in, known, cite, step, First, Encoding, Stated, ToldEncoding, encoded}
 
 abbrev pub Agrees : Step → Step → Type 0
 Agrees (Breaks e p) u = Unit {0}
@@ -47,6 +47,7 @@ agrees_begins : (fs : List Open) (p : Place) (k : Kind) (q : Place) → Agrees (
 agrees_begins fs p k q = agrees_if (is_shallow (tags fs)) (Goes (Naming (OfStart fs p) q (utf8 k))) TooDeep p
 
 agrees_element : (a : Around) (p : Place) (k : Kind) (q : Place) → Agrees (element_begins true a p k q) (element_begins false a p k q)
+agrees_element First p k q = agrees_begins [] p k q
 agrees_element Before p k q = agrees_begins [] p k q
 agrees_element (Within f fs) p k q = agrees_begins (f ∷ fs) p k q
 agrees_element (After t) p k q = refl
@@ -68,6 +69,13 @@ agrees_cite c p (Hexadecimal n) k = same (cite true c p (Hexadecimal n) k)
 agrees_local : (b : Bearer) (p : Place) (n m : List ℕ) (k : Kind) (q : Place) → Agrees (step true (Localing b p n m) k q) (step false (Localing b p n m) k q)
 agrees_local b p n m k q = agrees_else (is_name k) (Goes (Localing b p n (m ++ utf8 k))) (named true b (called p n m) k) (named false b (called p n m) k) (agrees_named b (called p n m) k)
 
+agrees_encoded : (d : Bool) (o : Option Place) (v : List ℕ) (k : Kind) (p : Place) → Agrees (encoded true d o v k p) (encoded false d o v k p)
+agrees_encoded d o v k p = on (is_quote d k)
+  where
+    on : (t : Bool) → Agrees (if t then (if is_encoding v then Goes (Stated ToldEncoding) else Breaks BadEncoding (place_or o p)) else (if is_good k then Goes (Encoding d (Some (place_or o p)) (v ++ utf8 k)) else Stops)) (if t then Goes (Stated ToldEncoding) else (if is_good k then Goes (Encoding d (Some (place_or o p)) (v ++ utf8 k)) else Stops))
+    on true = agrees_if (is_encoding v) (Goes (Stated ToldEncoding)) BadEncoding (place_or o p)
+    on false = same (if is_good k then Goes (Encoding d (Some (place_or o p)) (v ++ utf8 k)) else Stops)
+
 pub agrees : (s : State) (k : Kind) (p : Place) → Agrees (step true s k p) (step false s k p)
 agrees (Begun a o) (Letter c) p = agrees_element a o (Letter c) p
 agrees (Begun a o) k p = same (step true (Begun a o) k p)
@@ -80,4 +88,5 @@ agrees (Valued fs t) k p = agrees_tag fs t k
 agrees (Shutting fs t) Greater p = agrees_weighed (tag_fault (tags fs) t) (Goes (ended fs (Node t Nil)))
 agrees (Shutting fs t) k p = refl
 agrees (Citation c o x) k p = agrees_cite c o x k
+agrees (Encoding d o v) k p = agrees_encoded d o v k p
 agrees s k p = same (step true s k p)

@@ -1,12 +1,13 @@
 -- What can be read on from each state, by the form alone.
 use Rattle.std.proofs.Common.{◌≡◌, ℕ, List, [], ◌∷◌, ◌++◌, refl, sym, ◌∙◌, subst, arith}
 use Rattle.std.proofs.lemmas.Str.{encode_ascii}
-use Rattle.std.specs.Prelude.{Bool, true, false}
+use Rattle.std.proofs.lemmas.Bool.{eq-eqb}
+use Rattle.std.specs.Prelude.{Bool, true, false, codes, Option, None, ◌==◌}
 use Rattle.atl_base.specs.declared.place.Place.{Place}
-use Rattle.doc_text.specs.Symbols.{Kind, Less, Greater, Slash, Semicolon, Quote, Equals, Question, Dash, Letter, Joint, Symbol, mark, utf8, quote}
+use Rattle.doc_text.specs.Symbols.{Kind, Less, Greater, Slash, Semicolon, Quote, Equals, Question, Dash, Letter, Joint, Symbol, mark, utf8, quote, Blank, Apostrophe}
 use Rattle.doc_text.specs.Raw.{Name, called, Start, start, Tree, Node, Nil, Also}
 use Rattle.doc_text.specs.Form.{is_reserved}
-use Rattle.doc_text.specs.Machine.{Open, Around, Before, Within, After, Bearer, OfStart, OfAttribute, OfEnd, Citing, InText, InValue, Cited, Nameless, ByEntity, Hashed, Decimal, Hexed, Hexadecimal, State, Prolog, Inside, Epilog, Begun, Banged, BangDash, Remarking, RemarkDash, RemarkEnd, Asked, Targeting, TargetEnd, Telling, Naming, Coloned, Localing, Spaced, Valued, Shutting, Equalling, Opening, Valuing, Ending, Closing, Citation, back, ended, cited, further, run, Read}
+use Rattle.doc_text.specs.Machine.{Open, Around, Before, Within, After, Bearer, OfStart, OfAttribute, OfEnd, Citing, InText, InValue, Cited, Nameless, ByEntity, Hashed, Decimal, Hexed, Hexadecimal, State, InProlog, Inside, Epilog, Begun, Banged, BangDash, Remarking, RemarkDash, RemarkEnd, Asked, Targeting, TargetEnd, Telling, Naming, Coloned, Localing, Spaced, Valued, Shutting, Equalling, Opening, Valuing, Ending, Closing, Citation, back, ended, cited, further, run, Read, First, Stage, Untold, ToldVersion, ToldEncoding, ToldStanding, Clause, OfVersion, OfEncoding, OfStanding, Beginning, Declaring, Wording, Equating, Quoting, Numbering, Numbered, Encoding, Answer, Answering, Stated, DeclEnd, clause_value}
 
 module _ (end : Place) where
   abbrev pub Ends : State → Type 0
@@ -33,6 +34,7 @@ module _ (end : Place) where
   inside_ends n f fs = let c = closes fs (Node f.tag f.children) in (closing (f ∷ fs), c.0, c.1)
 
   back_ends : (a : Around) → Ends (back a)
+  back_ends First = (put Less ∷ put (Letter 97) ∷ put Slash ∷ put Greater ∷ [], Node (start end (called end [] (utf8 (Letter 97))) []) Nil, refl)
   back_ends Before = (put Less ∷ put (Letter 97) ∷ put Slash ∷ put Greater ∷ [], Node (start end (called end [] (utf8 (Letter 97))) []) Nil, refl)
   back_ends (Within f fs) = inside_ends 0 f fs
   back_ends (After t) = ([], t, refl)
@@ -98,7 +100,10 @@ module _ (end : Place) where
   longer (x ∷ m ∷ l ∷ k ∷ n) h = refl
 
   free_ends : (a : Around) (n : List ℕ) → is_reserved n ≡ false → Ends (Targeting a n)
-  free_ends a n h = by (Targeting a n) (TargetEnd a) Question (λ m. rw h refl) (target_end_ends a)
+  free_ends First n h = by (Targeting First n) (TargetEnd First) Question (λ m. rw h refl) (target_end_ends First)
+  free_ends Before n h = by (Targeting Before n) (TargetEnd Before) Question (λ m. rw h refl) (target_end_ends Before)
+  free_ends (Within f fs) n h = by (Targeting (Within f fs) n) (TargetEnd (Within f fs)) Question (λ m. rw h refl) (target_end_ends (Within f fs))
+  free_ends (After t) n h = by (Targeting (After t) n) (TargetEnd (After t)) Question (λ m. rw h refl) (target_end_ends (After t))
 
   targeting_ends : (a : Around) (n : List ℕ) → Ends (Targeting a n)
   targeting_ends a n = on (is_reserved n) refl
@@ -122,8 +127,71 @@ module _ (end : Place) where
   begun_ends : (a : Around) (p : Place) → Ends (Begun a p)
   begun_ends a p = by (Begun a p) (Asked a) Question (λ m. refl) (by (Asked a) (Targeting a (utf8 (Letter 97))) (Letter 97) (λ m. refl) (targeting_ends a (utf8 (Letter 97))))
 
+  -- the declaration
+  decl_end_ends : Ends DeclEnd
+  decl_end_ends = by DeclEnd InProlog Greater (λ m. refl) (back_ends Before)
+
+  standing_ends : Ends (Stated ToldStanding)
+  standing_ends = by (Stated ToldStanding) DeclEnd Question (λ m. refl) decl_end_ends
+
+  encoding_ends : (d : Bool) (o : Option Place) (v : List ℕ) → Ends (Encoding d o v)
+  encoding_ends true o v = by (Encoding true o v) (Stated ToldEncoding) Quote (λ m. refl) (by (Stated ToldEncoding) DeclEnd Question (λ m. refl) decl_end_ends)
+  encoding_ends false o v = by (Encoding false o v) (Stated ToldEncoding) Apostrophe (λ m. refl) (by (Stated ToldEncoding) DeclEnd Question (λ m. refl) decl_end_ends)
+
+  numbered_ends : (d : Bool) → Ends (Numbered d)
+  numbered_ends true = by (Numbered true) (Stated ToldVersion) Quote (λ m. refl) (by (Stated ToldVersion) DeclEnd Question (λ m. refl) decl_end_ends)
+  numbered_ends false = by (Numbered false) (Stated ToldVersion) Apostrophe (λ m. refl) (by (Stated ToldVersion) DeclEnd Question (λ m. refl) decl_end_ends)
+
+  spells : (d : ℕ) → (d == d) ≡ true
+  spells d = eq-eqb d d refl
+
+  numbering_ends : (d : Bool) (left : List ℕ) → Ends (Numbering d left)
+  numbering_ends d [] = by (Numbering d []) (Numbered d) (Joint 48) (λ m. refl) (numbered_ends d)
+  numbering_ends d (c ∷ left) = by (Numbering d (c ∷ left)) (Numbering d left) (Letter c) (λ m. rw (spells c) refl) (numbering_ends d left)
+
+  answering_ends : (d : Bool) (left : List ℕ) → Ends (Answering d left)
+  answering_ends true [] = by (Answering true []) (Stated ToldStanding) Quote (λ m. refl) standing_ends
+  answering_ends false [] = by (Answering false []) (Stated ToldStanding) Apostrophe (λ m. refl) standing_ends
+  answering_ends d (c ∷ left) = by (Answering d (c ∷ left)) (Answering d left) (Letter c) (λ m. rw (spells c) refl) (answering_ends d left)
+
+  answer_ends : (d : Bool) → Ends (Answer d)
+  answer_ends d = by (Answer d) (Answering d (codes "o")) (Letter 110) (λ m. refl) (answering_ends d (codes "o"))
+
+  clause_value_ends : (c : Clause) → Ends (clause_value c true)
+  clause_value_ends OfVersion = numbering_ends true (codes "1.")
+  clause_value_ends OfEncoding = encoding_ends true None []
+  clause_value_ends OfStanding = answer_ends true
+
+  quoting_ends : (c : Clause) → Ends (Quoting c)
+  quoting_ends c = by (Quoting c) (clause_value c true) Quote (λ m. refl) (clause_value_ends c)
+
+  wording_ends : (c : Clause) (left : List ℕ) → Ends (Wording c left)
+  wording_ends c [] = by (Wording c []) (Quoting c) Equals (λ m. refl) (quoting_ends c)
+  wording_ends c (d ∷ left) = by (Wording c (d ∷ left)) (Wording c left) (Letter d) (λ m. rw (spells d) refl) (wording_ends c left)
+
+  declaring_ends : (s : Stage) → Ends (Declaring s)
+  declaring_ends Untold = by (Declaring Untold) (Wording OfVersion (codes "ersion")) (Letter 118) (λ m. refl) (wording_ends OfVersion (codes "ersion"))
+  declaring_ends ToldVersion = by (Declaring ToldVersion) DeclEnd Question (λ m. refl) decl_end_ends
+  declaring_ends ToldEncoding = by (Declaring ToldEncoding) DeclEnd Question (λ m. refl) decl_end_ends
+  declaring_ends ToldStanding = by (Declaring ToldStanding) DeclEnd Question (λ m. refl) decl_end_ends
+
+  stated_ends : (s : Stage) → Ends (Stated s)
+  stated_ends s = by (Stated s) (Declaring s) (Blank 32) (λ m. refl) (declaring_ends s)
+
   pub completes : (s : State) → Ends s
-  completes Prolog = back_ends Before
+  completes Beginning = by Beginning InProlog (Blank 32) (λ m. refl) (back_ends Before)
+  completes (Declaring s) = declaring_ends s
+  completes (Wording c left) = wording_ends c left
+  completes (Equating c) = by (Equating c) (Quoting c) Equals (λ m. refl) (quoting_ends c)
+  completes (Quoting c) = quoting_ends c
+  completes (Numbering d left) = numbering_ends d left
+  completes (Numbered d) = numbered_ends d
+  completes (Encoding d o v) = encoding_ends d o v
+  completes (Answer d) = answer_ends d
+  completes (Answering d left) = answering_ends d left
+  completes (Stated s) = stated_ends s
+  completes DeclEnd = decl_end_ends
+  completes InProlog = back_ends Before
   completes (Inside n f fs) = inside_ends n f fs
   completes (Epilog t) = back_ends (After t)
   completes (Begun a p) = begun_ends a p

@@ -6,10 +6,11 @@ use Rattle.doc_text.specs.Symbols.{Kind, Less, Greater, Slash, And, Colon, Blank
 use Rattle.doc_text.specs.Raw.{Start, start, same_name, Node, Trees, Nil}
 use Rattle.doc_text.specs.Faults.{Fault, TooDeep, MismatchedEnd}
 use Rattle.doc_text.specs.Namespaces.{tag_fault}
-use Rattle.doc_text.specs.Form.{Run, No, More, spelt, plain_spelt, QName, Unprefixed, Prefixed, name_spelt, name_of, Attributes, pairs_of, Tag, tag_spelt, start_of, ETag, end_spelt, Element, Full, EmptyElem, element_spelt, Items, Nothing, Then, items_spelt, Item, Sub, Text, Referred, Passed, item_spelt, tree_of, trees_of, grown, bracketed, last_brackets, brackets, IsApart, miscs_spelt, Document, document_spelt}
-use Rattle.doc_text.specs.Conditions.{passes, is_shallow, is_sound, TagFits, AttributesFit, ElementFits, ItemsFit, ItemFits, AttributesFail, TagFails, ElementFails, ItemsFail, ItemFails}
-use Rattle.doc_text.specs.Machine.{Open, opened, tags, grow, Around, Before, Within, OfStart, OfEnd, InText, State, Prolog, Inside, Begun, Naming, Spaced, Shutting, Ending, Closing, Step, Goes, ended, weighed, tag_goes, begins_in, element_begins, step, Read, Refused, run, read}
-use Rattle.doc_text.proofs.Runs.{false-true, true-false, letters, goes_if, goes_else, Leads, steps, breaks, gaps, optional, breaks_first, name_state, name_reads, name_goes, over, aside_reads, prolog_reads, epilog_reads}
+use Rattle.doc_text.specs.Form.{Run, No, More, spelt, plain_spelt, QName, Unprefixed, Prefixed, name_spelt, name_of, Attributes, pairs_of, Tag, tag_spelt, start_of, ETag, end_spelt, Element, Full, EmptyElem, element_spelt, Items, Nothing, Then, items_spelt, Item, Sub, Text, Referred, Passed, item_spelt, tree_of, trees_of, grown, bracketed, last_brackets, brackets, IsApart, miscs_spelt, Document, document_spelt, Prolog, Undeclared, Declared, Following, Helped, prolog_spelt}
+use Rattle.doc_text.specs.Conditions.{passes, is_shallow, is_sound, TagFits, AttributesFit, ElementFits, ItemsFit, ItemFits, AttributesFail, TagFails, ElementFails, ItemsFail, ItemFails, DocumentFits, DocumentFails, PrologFits, PrologFails}
+use Rattle.doc_text.specs.Machine.{Open, opened, tags, grow, Around, Before, Within, OfStart, OfEnd, InText, State, InProlog, Inside, Begun, Naming, Spaced, Shutting, Ending, Closing, Step, Goes, ended, weighed, tag_goes, begins_in, element_begins, step, Read, Refused, read, Beginning, First}
+use Rattle.doc_text.proofs.Runs.{false-true, true-false, letters, goes_if, goes_else, Leads, steps, breaks, gaps, optional, breaks_first, name_state, name_reads, name_goes, over, aside_reads, epilog_reads}
+use Rattle.doc_text.proofs.Heads.{prolog_state, prolog_read}
 use Rattle.doc_text.proofs.Outcomes.{failed, Outcome, Passes, Fails, both, turned, led, onward, decide, cites, tag_state, tag_step, attributes_read}
 
 weigh_goes : (b : Bool) (o : Option (Fault × Place)) (x : Step) → passes b (is_none o) ≡ true → weighed b o x ≡ x
@@ -96,8 +97,8 @@ module _ (strict : Bool) (end : Place) where
       on false k =
           let x = failed strict (same_name (name_of e.name) f.tag.name) k in
           Fails x.0 MismatchedEnd (name_of e.name).at (refl, refl, x.1) (λ r. breaks_first strict end (name_state strict end (OfEnd f fs) e.name) MismatchedEnd (name_of e.name).at
-              (λ c p. over strict end (OfEnd f fs) e.name (Blank c) p tt ∙ goes_else (passes strict (same_name (name_of e.name) f.tag.name)) _ _ k) e.blanks (mark e.greater Greater ∷ r)
-              (breaks strict end (name_state strict end (OfEnd f fs) e.name) (mark e.greater Greater) r MismatchedEnd (name_of e.name).at (over strict end (OfEnd f fs) e.name Greater e.greater tt ∙ goes_else (passes strict (same_name (name_of e.name) f.tag.name)) _ _ k)))
+          (λ c p. over strict end (OfEnd f fs) e.name (Blank c) p tt ∙ goes_else (passes strict (same_name (name_of e.name) f.tag.name)) _ _ k) e.blanks (mark e.greater Greater ∷ r)
+          (breaks strict end (name_state strict end (OfEnd f fs) e.name) (mark e.greater Greater) r MismatchedEnd (name_of e.name).at (over strict end (OfEnd f fs) e.name Greater e.greater tt ∙ goes_else (passes strict (same_name (name_of e.name) f.tag.name)) _ _ k)))
 
   text_step : (n : ℕ) (f : Open) (fs : List Open) (k : Kind) (p : Place) → is_text k ≡ true → is_greater k && nat_eq n 2 ≡ false → step strict (Inside n f fs) k p ≡ Goes (Inside (bracketed n k) (grow f (utf8 k)) fs)
   text_step n f fs Less p h a = absurd (false-true h)
@@ -111,9 +112,11 @@ module _ (strict : Bool) (end : Place) where
     element_read (Full t g is e) s a fs f i h = turned strict end (λ x. (x.0.0, x.0.1, x.1)) (λ x q. apart)
         (both strict end (both strict end (tag_opens fs t g s (half_tag s a fs f i t)) (items_read is (start_of t) fs h.1)) (end_reads (brackets is) (opened (start_of t) (trees_of is)) fs e))
     element_read (EmptyElem t o g) s a fs f i h = tag_closes fs t o g s (half_tag s a fs f i t)
+
     pub items_read : (is : Items) (t : Start) (fs : List Open) → ItemsFit false (t ∷ tags fs) is → Outcome strict end (ItemsFit strict (t ∷ tags fs) is) (λ x q. ItemsFail x q (t ∷ tags fs) is) (Inside 0 (opened t Nil) fs) (items_spelt is) (Inside (brackets is) (opened t (trees_of is)) fs)
     items_read Nothing t fs h = Passes tt (λ r. refl)
     items_read (Then is i) t fs h = turned strict end (λ x. (x.0, x.1, h.2)) (λ x q v. v) (both strict end (items_read is t fs h.0) (item_read i (brackets is) t (trees_of is) fs h.1 h.2))
+
     pub item_read : (i : Item) (n : ℕ) (t : Start) (ts : Trees) (fs : List Open) → ItemFits false (t ∷ tags fs) i → IsApart n i → Outcome strict end (ItemFits strict (t ∷ tags fs) i) (λ x q. ItemFails x q (t ∷ tags fs) i) (Inside n (opened t ts) fs) (item_spelt i) (Inside (last_brackets n i) (opened t (grown ts i)) fs)
     item_read (Sub e) n t ts fs h k = element_read e (Inside n (opened t ts) fs) (Within (opened t ts) fs) (opened t ts ∷ fs) (λ p. refl) (λ p c q. refl) h
     item_read (Text s i) n t ts fs h k = Passes tt (λ r. steps strict end (Inside n (opened t ts) fs) s r _ (text_step n (opened t ts) fs s.kind s.at i k))
@@ -122,14 +125,18 @@ module _ (strict : Bool) (end : Place) where
 
   -- a document of the form is read, or breaks where a condition fails in it
   pub data Result (d : Document) : Type 0 where
-    Fit : ElementFits strict [] d.root → read strict end (document_spelt d) ≡ Read (tree_of d.root) → Result d
-    Unfit : strict ≡ true → (e : Fault) (p : Place) → ElementFails e p [] d.root → read strict end (document_spelt d) ≡ Refused (e, p) → Result d
+    Fit : DocumentFits strict d → read strict end (document_spelt d) ≡ Read (tree_of d.root) → Result d
+    Unfit : strict ≡ true → (e : Fault) (p : Place) → DocumentFails e p d → read strict end (document_spelt d) ≡ Refused (e, p) → Result d
 
-  pub result : (d : Document) → ElementFits false [] d.root → Result d
-  result d h = on (element_read d.root Prolog Before [] (λ p. refl) (λ p c q. refl) h)
+  root_read : (m : Prolog) (e : Element) → ElementFits false [] e → Outcome strict end (ElementFits strict [] e) (λ x q. ElementFails x q [] e) (prolog_state strict end m) (element_spelt e) (ended [] (tree_of e))
+  root_read Undeclared e h = element_read e Beginning First [] (λ p. refl) (λ p c q. refl) h
+  root_read (Declared d) e h = element_read e InProlog Before [] (λ p. refl) (λ p c q. refl) h
+  root_read (Following m s i) e h = element_read e InProlog Before [] (λ p. refl) (λ p c q. refl) h
+  root_read (Helped m a) e h = element_read e InProlog Before [] (λ p. refl) (λ p c q. refl) h
+
+  pub result : (d : Document) → DocumentFits false d → Result d
+  result d h = on (both strict end (prolog_read strict end d.prolog) (root_read d.prolog d.root h.1))
     where
-      begins : read strict end (document_spelt d) ≡ run strict end Prolog (element_spelt d.root (miscs_spelt d.epilog []))
-      begins = prolog_reads strict end d.prolog (element_spelt d.root (miscs_spelt d.epilog []))
-      on : Outcome strict end (ElementFits strict [] d.root) (λ x q. ElementFails x q [] d.root) Prolog (element_spelt d.root) (ended [] (tree_of d.root)) → Result d
-      on (Passes x k) = Fit x (begins ∙ k (miscs_spelt d.epilog []) ∙ epilog_reads strict end (tree_of d.root) d.epilog [])
-      on (Fails t e p v k) = Unfit t e p v (begins ∙ k (miscs_spelt d.epilog []))
+      on : Outcome strict end (PrologFits strict d.prolog × ElementFits strict [] d.root) (λ x q. PrologFails x q d.prolog ⊎ ElementFails x q [] d.root) Beginning (λ r. prolog_spelt d.prolog (element_spelt d.root r)) (ended [] (tree_of d.root)) → Result d
+      on (Passes x k) = Fit x (k (miscs_spelt d.epilog []) ∙ epilog_reads strict end (tree_of d.root) d.epilog [])
+      on (Fails t e p v k) = Unfit t e p v (k (miscs_spelt d.epilog []))

@@ -1,10 +1,13 @@
 pub mod Zipper
+pub mod Stands
+pub mod SoundHead
 pub mod Sound
 pub mod Completes
 pub mod Runs
 pub mod Outcomes
-pub mod Elements
 pub mod Texts
-pub mod Meets
 pub mod Agrees
+pub mod Meets
+pub mod Heads
+pub mod Elements
 pub mod Main

@@ -6,16 +6,17 @@ use Rattle.atl_base.specs.declared.place.Place.{Place}
 use Rattle.doc_text.specs.Symbols.{Symbol, mark, Less, Bang, Dash, is_good}
 use Rattle.doc_text.specs.Raw.{called, Tree, same_name}
 use Rattle.doc_text.specs.Faults.{Fault, BadByte, Expected, MismatchedEnd, Trailing, Unsupported}
-use Rattle.doc_text.specs.Form.{Document, document_spelt, Bare, tree_of}
-use Rattle.doc_text.specs.Conditions.{IsDocument, ElementFits, ElementFails}
-use Rattle.doc_text.specs.Machine.{OfStart, OfAttribute, OfEnd, State, Prolog, Epilog, Naming, Localing, Step, Goes, Stops, Breaks, step, after, reason, unwanted, declares, run, read, End, Read, Refused}
+use Rattle.doc_text.specs.Form.{Document, document_spelt, tree_of}
+use Rattle.doc_text.specs.Conditions.{IsDocument, DocumentFits, DocumentFails}
+use Rattle.doc_text.specs.Machine.{OfStart, OfAttribute, OfEnd, State, Beginning, Epilog, Naming, Localing, Step, Goes, Stops, Breaks, step, after, reason, unwanted, declares, run, read, End, Read, Refused}
 use Rattle.doc_text.specs.Laws.{GoesOn, StopsAt, FailsAt, Lead0, Lead1, Lead2, Lead3, Because, Tells, Exact}
-use Rattle.doc_text.proofs.Zipper.{ZAround, ZBefore, ZWithin, ZAfter, around_spelt, Zip, ZProlog, ZEpilog, ZBegun, ZBanged, ZBangDash, value, before, Fits}
+use Rattle.doc_text.proofs.Zipper.{ZAround, ZBefore, ZWithin, ZAfter, around_spelt, Zip, ZEpilog, ZBegun, ZBanged, ZBangDash, value, before, Fits, ZFirst, ZBeginning}
 use Rattle.doc_text.proofs.Texts.{around_cut}
-use Rattle.doc_text.proofs.Sound.{Stands, StepStands, steps_on, ReadOf, sound}
+use Rattle.doc_text.proofs.Stands.{Stands, StepStands}
+use Rattle.doc_text.proofs.Sound.{steps_on, ReadOf, sound}
 use Rattle.doc_text.proofs.Completes.{completes}
 use Rattle.doc_text.proofs.Elements.{Result, Fit, Unfit, result}
-use Rattle.doc_text.proofs.Meets.{element_loosens, element_meets}
+use Rattle.doc_text.proofs.Meets.{document_loosens, document_meets}
 use Rattle.doc_text.proofs.Agrees.{Agrees, agrees}
 
 -- why reading stops, told by what was written before
@@ -46,23 +47,26 @@ module _ (end : Place) where
       on true i = (around_spelt (ZAfter m e k) [], [], tree_of e, cut (ZAfter m e k) [] front h, (record { prolog = m; root = e; epilog = k }, f, refl, refl), Lead0, refl)
       on false i = (i, refl)
   because (ZBegun (ZAfter m e k) p) front rest f h = (around_spelt (ZAfter m e k) [], mark p Less ∷ [], tree_of e, cut (ZAfter m e k) (mark p Less ∷ []) front h, (record { prolog = m; root = e; epilog = k }, f, refl, refl), Lead1 p, refl)
+  because (ZBegun ZFirst p) front rest f h = unwanted_because front rest
   because (ZBegun (ZBefore m) p) front rest f h = unwanted_because front rest
   because (ZBegun (ZWithin z t g is) p) front rest f h = unwanted_because front rest
   because (ZBanged (ZAfter m e k) p q) front rest f h = (around_spelt (ZAfter m e k) [], mark p Less ∷ mark q Bang ∷ [], tree_of e, cut (ZAfter m e k) (mark p Less ∷ mark q Bang ∷ []) front h, (record { prolog = m; root = e; epilog = k }, f, refl, refl), Lead2 p q, refl)
+  because (ZBanged ZFirst p q) front rest f h = declared_because ZFirst p q front rest h
   because (ZBanged (ZBefore m) p q) front rest f h = declared_because (ZBefore m) p q front rest h
   because (ZBanged (ZWithin z t g is) p q) front rest f h = declared_because (ZWithin z t g is) p q front rest h
   because (ZBangDash (ZAfter m e k) p q r) front rest f h = (around_spelt (ZAfter m e k) [], mark p Less ∷ mark q Bang ∷ mark r Dash ∷ [], tree_of e, cut (ZAfter m e k) (mark p Less ∷ mark q Bang ∷ mark r Dash ∷ []) front h, (record { prolog = m; root = e; epilog = k }, f, refl, refl), Lead3 p q r, refl)
+  because (ZBangDash ZFirst p q r) front rest f h = unwanted_because front rest
   because (ZBangDash (ZBefore m) p q r) front rest f h = unwanted_because front rest
   because (ZBangDash (ZWithin z t g is) p q r) front rest f h = unwanted_because front rest
   because z front rest f h = unwanted_because front rest
 
   -- a document is read
   accepts : (strict : Bool) (ss : List Symbol) (t : Tree) → IsDocument strict ss t → read strict end ss ≡ Read t
-  accepts strict ss t x = subst (λ l. read strict end l ≡ Read t) x.2 (subst (λ u. read strict end (document_spelt x.0) ≡ Read u) x.3 (on (result strict end x.0 (element_loosens strict x.0.root [] x.1))))
+  accepts strict ss t x = subst (λ l. read strict end l ≡ Read t) x.2 (subst (λ u. read strict end (document_spelt x.0) ≡ Read u) x.3 (on (result strict end x.0 (document_loosens strict x.0 x.1))))
     where
       on : Result strict end x.0 → read strict end (document_spelt x.0) ≡ Read (tree_of x.0.root)
       on (Fit f h) = h
-      on (Unfit s e p v h) = absurd (element_meets x.0.root e p [] (subst (λ b. ElementFits b [] x.0.root) s x.1) v)
+      on (Unfit s e p v h) = absurd (document_meets e p x.0 (subst (λ b. DocumentFits b x.0) s x.1) v)
 
   abbrev Refuses : End → Type 0
   Refuses (Read t) = ⊥
@@ -72,12 +76,12 @@ module _ (end : Place) where
   Taken (Refused f) e p = (f.0 ≡ e) × (f.1 ≡ p)
   Taken (Read t) e p = ⊥
 
-  violated : (e : Fault) (p : Place) (d : Document) → ElementFits false [] d.root → read true end (document_spelt d) ≡ Refused (e, p) → ElementFails e p [] d.root
+  violated : (e : Fault) (p : Place) (d : Document) → DocumentFits false d → read true end (document_spelt d) ≡ Refused (e, p) → DocumentFails e p d
   violated e p d f h = on (result true end d f)
     where
-      on : Result true end d → ElementFails e p [] d.root
+      on : Result true end d → DocumentFails e p d
       on (Fit g k) = absurd (subst Refuses (sym h ∙ k) tt)
-      on (Unfit s x q v k) = let same = subst (λ r. Taken r e p) (sym h ∙ k) (refl, refl) in subst (λ c. ElementFails c p [] d.root) same.0 (subst (λ c. ElementFails x c [] d.root) same.1 v)
+      on (Unfit s x q v k) = let same = subst (λ r. Taken r e p) (sym h ∙ k) (refl, refl) in subst (λ c. DocumentFails c p d) same.0 (subst (λ c. DocumentFails x c d) same.1 v)
 
   -- what happens at the first character that is not read, or at the end
   abbrev NoStep : Bool → State → List Symbol → Type 0
@@ -132,17 +136,24 @@ module _ (end : Place) where
       each : (v : Step) → step true s t.kind t.at ≡ v → step false s t.kind t.at ≡ v → (b : Bool) → step b s t.kind t.at ≡ v
       each v h l true = h
       each v h l false = l
+
       stands : (v : State) → ((b : Bool) → step b s t.kind t.at ≡ Goes v) → (b : Bool) → Stands b (λ r. all (t ∷ r)) v
       stands v h b = subst (StepStands b (λ r. all (t ∷ r))) (h b) (steps_on b all s t (st b))
+
       further : (v : State) → ((b : Bool) → step b s t.kind t.at ≡ Goes v) → (r : End) → Stopped v ss (λ r. all (t ∷ r)) r → Stopped s (t ∷ ss) all r
       further v h (Read u) x = tt
-      further v h (Refused f) x = (x.0, record {
+      further v h (Refused f) x = (
+        x.0,
+        record {
           front = t ∷ x.1.front;
           whole = ap (λ u. t ∷ u) x.1.whole;
           state = x.1.state;
           leads = λ b more. ap (λ u. after u (reason end s (t ∷ (x.1.front ++ more))) (λ w. run b end w (x.1.front ++ more))) (h b) ∙ x.1.leads b more;
           stands = x.1.stands;
-          blocked = x.1.blocked })
+          blocked = x.1.blocked;
+        },
+      )
+
       on : ((v : State) → ((b : Bool) → Stands b (λ r. all (t ∷ r)) v) → Stopped v ss (λ r. all (t ∷ r)) (run true end v ss)) → (u : Step) → step true s t.kind t.at ≡ u → Agrees u (step false s t.kind t.at) → Stopped s (t ∷ ss) all (after u (reason end s (t ∷ ss)) (λ w. run true end w ss))
       on again Stops h l = here s (t ∷ ss) all (reason end s (t ∷ ss)) st (Stopping (λ b more. subst (λ u. Refuses (after u (reason end s (t ∷ more)) (λ w. run b end w more))) (sym (each Stops h l b)) tt) refl)
       on again (Breaks e p) h l = here s (t ∷ ss) all (e, p) st (Breaking (λ more. ap (λ u. after u (reason end s (t ∷ more)) (λ w. run true end w more)) h))
@@ -151,10 +162,10 @@ module _ (end : Place) where
   goes_on : (front : List Symbol) (u : State) → ((more : List Symbol) → read false end (front ++ more) ≡ run false end u more) → GoesOn front
   goes_on front u h =
       let c = completes end u in
-      (c.0, c.1, subst (ReadOf false end (front ++ c.0)) (h c.0 ∙ c.2) (sound false end (front ++ c.0) Prolog (λ r. r) (begins false)))
+      (c.0, c.1, subst (ReadOf false end (front ++ c.0)) (h c.0 ∙ c.2) (sound false end (front ++ c.0) Beginning (λ r. r) (begins false)))
     where
-      begins : (b : Bool) → Stands b (λ r. r) Prolog
-      begins b = record { zip = ZProlog Bare; is = refl; fits = tt; text = λ r. refl }
+      begins : (b : Bool) → Stands b (λ r. r) Beginning
+      begins b = record { zip = ZBeginning; is = refl; fits = tt; text = λ r. refl }
 
   stops_at : (b : Bool) (front rest : List Symbol) (u : State) → ((more : List Symbol) → read b end (front ++ more) ≡ run b end u more) → NoStep b u rest → StopsAt b front rest
   stops_at b front [] u h k = λ t x. subst Refuses (sym (h []) ∙ ap (read b end) (append-nil front) ∙ accepts b front t x) k
@@ -169,15 +180,18 @@ module _ (end : Place) where
   fails_at f front (s ∷ r) u h k = λ more d x w. violated f.0 f.1 d x (ap (read true end) w ∙ h (s ∷ more) ∙ k more)
 
   pub exact : (ss : List Symbol) → Exact end ss
-  exact ss = record { tells = on (read true end ss) (stopped ss Prolog (λ r. r) begins) (sound true end ss Prolog (λ r. r) (begins true)); reads = accepts true ss }
+  exact ss = record { tells = on (read true end ss) (stopped ss Beginning (λ r. r) begins) (sound true end ss Beginning (λ r. r) (begins true)); reads = accepts true ss }
     where
-      begins : (b : Bool) → Stands b (λ r. r) Prolog
-      begins b = record { zip = ZProlog Bare; is = refl; fits = tt; text = λ r. refl }
+      begins : (b : Bool) → Stands b (λ r. r) Beginning
+      begins b = record { zip = ZBeginning; is = refl; fits = tt; text = λ r. refl }
+
       why : (f : Fault × Place) (front rest : List Symbol) (u : State) (st : Stands true (λ r. front ++ r) u) → reason end u rest ≡ f → Because end front rest f.0 f.1
       why f front rest u st h = subst (λ g. Because end front rest g.0 g.1) (ap (λ v. reason end v rest) st.is ∙ h) (because st.zip front rest st.fits (st.text []))
-      tell : (f : Fault × Place) (rest : List Symbol) (c : Comes Prolog ss rest (λ r. r) f) → Blocked c.state rest f → Tells end ss (Refused f)
+
+      tell : (f : Fault × Place) (rest : List Symbol) (c : Comes Beginning ss rest (λ r. r) f) → Blocked c.state rest f → Tells end ss (Refused f)
       tell f rest c (Stopping k w) = (c.front, rest, c.whole, goes_on c.front c.state (c.leads false), stops_at true c.front rest c.state (c.leads true) (k true), inr (stops_at false c.front rest c.state (c.leads false) (k false), why f c.front rest c.state (c.stands true) w))
       tell f rest c (Breaking k) = (c.front, rest, c.whole, goes_on c.front c.state (c.leads false), stops_at true c.front rest c.state (c.leads true) (refused c.state rest f k), inl (fails_at f c.front rest c.state (c.leads true) k))
-      on : (r : End) → Stopped Prolog ss (λ r. r) r → ReadOf true end ss r → Tells end ss r
+
+      on : (r : End) → Stopped Beginning ss (λ r. r) r → ReadOf true end ss r → Tells end ss r
       on (Read t) c x = x
       on (Refused f) c x = tell f c.0 c.1 c.1.blocked

@@ -65,19 +65,19 @@ module _ (strict : Bool) (end : Place) where
   pub cites : (r : Reference) (c : Citing) (s : State) → ((p : Place) → step strict s And p ≡ Goes (Citation c p Nameless)) → Outcome (ReferenceFits strict r) (λ e p. ReferenceFails e p r) s (reference_spelt r) (cited c (encode_utf8 (character_of (target_of r))))
   cites (EntityRef p n q) c s f =
       led (λ r. mark p And ∷ plain_spelt n r) (λ r. steps strict end s (mark p And) _ _ (f p)
-          ∙ steps strict end (Citation c p Nameless) n.first (spelt n.others r) _ (letters (λ k. step strict (Citation c p Nameless) k n.first.at ≡ Goes (Citation c p (ByEntity (utf8 k)))) (λ x. refl) n.first.kind n.starts)
-          ∙ gathers strict end (λ m. Citation c p (ByEntity m)) (citing c p) n.others (utf8 n.first.kind) r)
+      ∙ steps strict end (Citation c p Nameless) n.first (spelt n.others r) _ (letters (λ k. step strict (Citation c p Nameless) k n.first.at ≡ Goes (Citation c p (ByEntity (utf8 k)))) (λ x. refl) n.first.kind n.starts)
+      ∙ gathers strict end (λ m. Citation c p (ByEntity m)) (citing c p) n.others (utf8 n.first.kind) r)
       (decide (is_known (ByName (plain_bytes n))) (Citation c p (ByEntity (plain_bytes n))) (mark q Semicolon) _ _ p refl)
   cites (CharRef p o d e x q) c s f =
       led (λ r. mark p And ∷ mark o Hash ∷ d ∷ spelt x r) (λ r. steps strict end s (mark p And) _ _ (f p)
-          ∙ steps strict end (Citation c p Hashed) d (spelt x r) _ (decimals (λ k. step strict (Citation c p Hashed) k d.at ≡ Goes (Citation c p (Decimal (one_more 10 0 k)))) (λ y i. goes_if (is_decimal (Joint y)) _ _ i) d.kind e)
-          ∙ counts c p x (one_more 10 0 d.kind) r)
+      ∙ steps strict end (Citation c p Hashed) d (spelt x r) _ (decimals (λ k. step strict (Citation c p Hashed) k d.at ≡ Goes (Citation c p (Decimal (one_more 10 0 k)))) (λ y i. goes_if (is_decimal (Joint y)) _ _ i) d.kind e)
+      ∙ counts c p x (one_more 10 0 d.kind) r)
       (decide (is_known (target_of (CharRef p o d e x q))) (Citation c p (Decimal (counted 10 (one_more 10 0 d.kind) x))) (mark q Semicolon) _ _ p refl)
   cites (HexCharRef p o y i d e x q) c s f =
       led (λ r. mark p And ∷ mark o Hash ∷ y ∷ d ∷ spelt x r) (λ r. steps strict end s (mark p And) _ _ (f p)
-          ∙ steps strict end (Citation c p Hashed) y (d ∷ spelt x r) _ (hexed c p y.kind y.at i)
-          ∙ steps strict end (Citation c p Hexed) d (spelt x r) _ (hexadecimals (λ k. step strict (Citation c p Hexed) k d.at ≡ Goes (Citation c p (Hexadecimal (one_more 16 0 k)))) (λ z j. goes_if (is_hexadecimal (Joint z)) _ _ j) (λ z j. goes_if (is_hexadecimal (Letter z)) _ _ j) d.kind e)
-          ∙ hex_counts c p x (one_more 16 0 d.kind) r)
+      ∙ steps strict end (Citation c p Hashed) y (d ∷ spelt x r) _ (hexed c p y.kind y.at i)
+      ∙ steps strict end (Citation c p Hexed) d (spelt x r) _ (hexadecimals (λ k. step strict (Citation c p Hexed) k d.at ≡ Goes (Citation c p (Hexadecimal (one_more 16 0 k)))) (λ z j. goes_if (is_hexadecimal (Joint z)) _ _ j) (λ z j. goes_if (is_hexadecimal (Letter z)) _ _ j) d.kind e)
+      ∙ hex_counts c p x (one_more 16 0 d.kind) r)
       (decide (is_known (target_of (HexCharRef p o y i d e x q))) (Citation c p (Hexadecimal (counted 16 (one_more 16 0 d.kind) x))) (mark q Semicolon) _ _ p refl)
 
   -- values
@@ -114,10 +114,10 @@ module _ (strict : Bool) (end : Place) where
   attribute_reads : (s : State) (fs : List Open) (t : Start) → ((c : ℕ) (p : Place) → step strict s (Blank c) p ≡ Goes (Spaced fs t)) → (a : Attribute) → Outcome (ValueFits strict a.value) (λ e p. ValueFails e p a.value) s (attribute_spelt a) (Valued fs (further t (name_of a.name) (value_of a.value)))
   attribute_reads s fs t f a =
       led (λ r. gap_spelt a.gap (name_spelt a.name (spelt a.before (mark a.equals Equals ∷ spelt a.after (mark a.opens (quote a.double) ∷ r))))) (λ r.
-          gaps strict end s (Spaced fs t) f (λ c p. refl) a.gap.blanks a.gap.last a.gap.ends _
-          ∙ name_reads strict end (Spaced fs t) (OfAttribute fs t) (λ c p. refl) a.name _
-          ∙ equals fs t a.name a.before a.equals _
-          ∙ wants fs t (name_of a.name) a.after a.double a.opens r)
+      gaps strict end s (Spaced fs t) f (λ c p. refl) a.gap.blanks a.gap.last a.gap.ends _
+      ∙ name_reads strict end (Spaced fs t) (OfAttribute fs t) (λ c p. refl) a.name _
+      ∙ equals fs t a.name a.before a.equals _
+      ∙ wants fs t (name_of a.name) a.after a.double a.opens r)
       (onward (λ r. mark a.closes (quote a.double) ∷ r) (values_read fs t (name_of a.name) a.value) (λ r. shuts_value a.double fs t (name_of a.name) (value_of a.value) a.closes r))
 
   -- a start tag's name and attributes

@@ -6,7 +6,7 @@ use Rattle.doc_text.specs.Symbols.{Kind, Less, Greater, Slash, Equals, Question,
 use Rattle.doc_text.specs.Raw.{Tree}
 use Rattle.doc_text.specs.Faults.{Fault}
 use Rattle.doc_text.specs.Form.{Run, No, More, spelt, joined, Plain, plain_spelt, plain_bytes, QName, Unprefixed, Prefixed, name_spelt, name_of, Remarks, Silent, Undashed, Dashed, remarks_spelt, ends_asking, IsUnclosed, is_reserved, Aside, Comment, PI, PISaying, aside_spelt, Miscs, Bare, Blanked, Aided, miscs_spelt}
-use Rattle.doc_text.specs.Machine.{Around, Before, After, Bearer, State, Prolog, Epilog, Begun, Asked, Targeting, TargetEnd, Telling, Naming, Coloned, Localing, Remarking, RemarkDash, Step, Goes, Breaks, back, telling, named, step, End, Refused, after, reason, run}
+use Rattle.doc_text.specs.Machine.{Around, Before, After, Bearer, State, Epilog, Begun, Asked, Targeting, TargetEnd, Telling, Naming, Coloned, Localing, Remarking, RemarkDash, Step, Goes, Breaks, back, telling, named, step, End, Refused, after, reason, run, First, targeted, target_goes, Within}
 
 abbrev IsNot : Bool → Type 0
 IsNot true = ⊥
@@ -158,13 +158,19 @@ module _ (strict : Bool) (end : Place) where
   targeting : (a : Around) (n : List ℕ) (c : Symbol) → is_name c.kind ≡ true → step strict (Targeting a n) c.kind c.at ≡ Goes (Targeting a (n ++ utf8 c.kind))
   targeting a n c h = goes_if (is_name c.kind) _ _ h
 
-  target_reads : (a : Around) (n : Plain) (r : List Symbol) → Leads (Asked a) (plain_spelt n r) (Targeting a (plain_bytes n)) r
+  pub target_reads : (a : Around) (n : Plain) (r : List Symbol) → Leads (Asked a) (plain_spelt n r) (Targeting a (plain_bytes n)) r
   target_reads a n r =
       steps (Asked a) n.first (spelt n.others r) _ (letters (λ k. step strict (Asked a) k n.first.at ≡ Goes (Targeting a (utf8 k))) (λ c. refl) n.first.kind n.starts)
       ∙ gathers (Targeting a) (targeting a) n.others (utf8 n.first.kind) r
 
+  targets : (a : Around) (n : List ℕ) (k : Kind) → is_reserved n ≡ false → targeted a n k ≡ target_goes a k
+  targets First n k h = goes_else (is_reserved n) _ _ h
+  targets Before n k h = goes_else (is_reserved n) _ _ h
+  targets (Within f fs) n k h = goes_else (is_reserved n) _ _ h
+  targets (After t) n k h = goes_else (is_reserved n) _ _ h
+
   told : (a : Around) (n : List ℕ) (c : Symbol) → is_reserved n ≡ false → is_blank c.kind ≡ true → step strict (Targeting a n) c.kind c.at ≡ Goes (Telling false a)
-  told a n c h b = blanks (λ k. step strict (Targeting a n) k c.at ≡ Goes (Telling false a)) (λ x. goes_else (is_reserved n) _ _ h) c.kind b
+  told a n c h b = blanks (λ k. step strict (Targeting a n) k c.at ≡ Goes (Telling false a)) (λ x. targets a n (Blank x) h) c.kind b
 
   pub aside_reads : (x : Aside) (a : Around) (s : State) → ((p : Place) → step strict s Less p ≡ Goes (Begun a p)) → (r : List Symbol) → Leads s (aside_spelt x r) (back a) r
   aside_reads (Comment p q o s c t u v) a z f r =
@@ -173,17 +179,12 @@ module _ (strict : Bool) (end : Place) where
   aside_reads (PI p q n h t u) a z f r =
       steps z (mark p Less) _ (Begun a p) (f p)
       ∙ target_reads a n (mark t Question ∷ mark u Greater ∷ r)
-      ∙ steps (Targeting a (plain_bytes n)) (mark t Question) (mark u Greater ∷ r) (TargetEnd a) (goes_else (is_reserved (plain_bytes n)) _ _ h)
+      ∙ steps (Targeting a (plain_bytes n)) (mark t Question) (mark u Greater ∷ r) (TargetEnd a) (targets a (plain_bytes n) Question h)
   aside_reads (PISaying p q n h s b x u t v) a z f r =
       steps z (mark p Less) _ (Begun a p) (f p)
       ∙ target_reads a n (s ∷ spelt x (mark t Question ∷ mark v Greater ∷ r))
       ∙ steps (Targeting a (plain_bytes n)) s _ (Telling false a) (told a (plain_bytes n) s h b)
       ∙ saying_reads a x (mark t Question ∷ mark v Greater ∷ r) u
-
-  pub prolog_reads : (m : Miscs) (r : List Symbol) → Leads Prolog (miscs_spelt m r) Prolog r
-  prolog_reads Bare r = refl
-  prolog_reads (Blanked m s h) r = prolog_reads m (s ∷ r) ∙ steps Prolog s r Prolog (blanks (λ k. step strict Prolog k s.at ≡ Goes Prolog) (λ c. refl) s.kind h)
-  prolog_reads (Aided m x) r = prolog_reads m (aside_spelt x r) ∙ aside_reads x Before Prolog (λ p. refl) r
 
   pub epilog_reads : (t : Tree) (m : Miscs) (r : List Symbol) → Leads (Epilog t) (miscs_spelt m r) (Epilog t) r
   epilog_reads t Bare r = refl

@@ -1,9 +1,9 @@
 -- What is written stands before the rest: the rest may be cut anywhere.
 use Rattle.std.proofs.Common.{◌≡◌, List, ◌∷◌, ◌++◌, refl, ap, ◌∙◌}
-use Rattle.std.specs.Prelude.{Bool}
+use Rattle.std.specs.Prelude.{Bool, ℕ}
 use Rattle.doc_text.specs.Symbols.{Kind, Less, Greater, Slash, And, Semicolon, Equals, Question, Bang, Hash, Colon, Dash, Symbol, mark, quote}
-use Rattle.doc_text.specs.Form.{Run, No, More, spelt, Plain, plain_spelt, QName, Unprefixed, Prefixed, name_spelt, Reference, EntityRef, CharRef, HexCharRef, reference_spelt, Values, Empty, Char, Refer, values_spelt, Attribute, attribute_spelt, Attributes, Alone, Further, attributes_spelt, Tag, tag_spelt, ETag, end_spelt, Remarks, Silent, Undashed, Dashed, remarks_spelt, Aside, Comment, PI, PISaying, aside_spelt, Miscs, Bare, Blanked, Aided, miscs_spelt, Element, Full, EmptyElem, element_spelt, Items, Nothing, Then, items_spelt, Item, Sub, Text, Referred, Passed, item_spelt}
-use Rattle.doc_text.proofs.Zipper.{Opens, Bottom, Opened, opens_spelt, ZAround, ZBefore, ZWithin, ZAfter, around_spelt}
+use Rattle.doc_text.specs.Form.{Run, No, More, spelt, Plain, plain_spelt, QName, Unprefixed, Prefixed, name_spelt, Reference, EntityRef, CharRef, HexCharRef, reference_spelt, Values, Empty, Char, Refer, values_spelt, Attribute, attribute_spelt, Attributes, Alone, Further, attributes_spelt, Tag, tag_spelt, ETag, end_spelt, Remarks, Silent, Undashed, Dashed, remarks_spelt, Aside, Comment, PI, PISaying, aside_spelt, Miscs, Bare, Blanked, Aided, miscs_spelt, Element, Full, EmptyElem, element_spelt, Items, Nothing, Then, items_spelt, Item, Sub, Text, Referred, Passed, item_spelt, Heading, heading_spelt, Title, title_spelt, VersionInfo, version_spelt, EncodingDecl, encoding_spelt, SDDecl, standalone_spelt, Told, Versioned, Encoded, told_spelt, Clauses, Only, Standing, clauses_spelt, Prolog, Undeclared, Declared, Following, Helped, prolog_spelt}
+use Rattle.doc_text.proofs.Zipper.{Opens, Bottom, Opened, opens_spelt, ZAround, ZBefore, ZWithin, ZAfter, around_spelt, ZFirst}
 
 spelt_cut : {of : Kind → Bool} (x : Run of) (r q : List Symbol) → spelt x (r ++ q) ≡ spelt x r ++ q
 spelt_cut No r q = refl
@@ -69,6 +69,51 @@ miscs_cut Bare r q = refl
 miscs_cut (Blanked m s h) r q = miscs_cut m (s ∷ r) q
 miscs_cut (Aided m x) r q = ap (miscs_spelt m) (aside_cut x r q) ∙ miscs_cut m (aside_spelt x r) q
 
+heading_cut : {text : List ℕ} (h : Heading text) (r q : List Symbol) → heading_spelt h (r ++ q) ≡ heading_spelt h r ++ q
+heading_cut h r q =
+    let o = mark h.opens (quote h.double) ∷ r in
+    let e = mark h.equals Equals ∷ spelt h.after o in
+    ap (λ u. spelt h.gap.blanks (h.gap.last ∷ spelt h.word.run (spelt h.before (mark h.equals Equals ∷ u)))) (spelt_cut h.after o q)
+    ∙ ap (λ u. spelt h.gap.blanks (h.gap.last ∷ spelt h.word.run u)) (spelt_cut h.before e q)
+    ∙ ap (λ u. spelt h.gap.blanks (h.gap.last ∷ u)) (spelt_cut h.word.run (spelt h.before e) q)
+    ∙ spelt_cut h.gap.blanks (h.gap.last ∷ spelt h.word.run (spelt h.before e)) q
+
+title_cut : (t : Title) (r q : List Symbol) → title_spelt t (r ++ q) ≡ title_spelt t r ++ q
+title_cut t r q = ap (λ u. mark t.less Less ∷ mark t.asks Question ∷ u) (plain_cut t.target r q)
+
+version_cut : (v : VersionInfo) (r q : List Symbol) → version_spelt v (r ++ q) ≡ version_spelt v r ++ q
+version_cut v r q =
+    let c = mark v.closes (quote v.heading.double) ∷ r in
+    ap (λ u. heading_spelt v.heading (spelt v.one.run (v.digit ∷ u))) (spelt_cut v.digits c q)
+    ∙ ap (heading_spelt v.heading) (spelt_cut v.one.run (v.digit ∷ spelt v.digits c) q)
+    ∙ heading_cut v.heading (spelt v.one.run (v.digit ∷ spelt v.digits c)) q
+
+encoding_cut : (e : EncodingDecl) (r q : List Symbol) → encoding_spelt e (r ++ q) ≡ encoding_spelt e r ++ q
+encoding_cut e r q =
+    let c = mark e.closes (quote e.heading.double) ∷ r in
+    ap (heading_spelt e.heading) (spelt_cut e.name c q) ∙ heading_cut e.heading (spelt e.name c) q
+
+standalone_cut : (d : SDDecl) (r q : List Symbol) → standalone_spelt d (r ++ q) ≡ standalone_spelt d r ++ q
+standalone_cut d r q =
+    let c = mark d.closes (quote d.heading.double) ∷ r in
+    ap (heading_spelt d.heading) (spelt_cut d.word.run c q) ∙ heading_cut d.heading (spelt d.word.run c) q
+
+told_cut : (t : Told) (r q : List Symbol) → told_spelt t (r ++ q) ≡ told_spelt t r ++ q
+told_cut (Versioned t v) r q = ap (title_spelt t) (version_cut v r q) ∙ title_cut t (version_spelt v r) q
+told_cut (Encoded t v e) r q = ap (λ u. title_spelt t (version_spelt v u)) (encoding_cut e r q) ∙ ap (title_spelt t) (version_cut v (encoding_spelt e r) q) ∙ title_cut t (version_spelt v (encoding_spelt e r)) q
+
+clauses_cut : (c : Clauses) (r q : List Symbol) → clauses_spelt c (r ++ q) ≡ clauses_spelt c r ++ q
+clauses_cut (Only t) r q = told_cut t r q
+clauses_cut (Standing t d) r q = ap (told_spelt t) (standalone_cut d r q) ∙ told_cut t (standalone_spelt d r) q
+
+pub prolog_cut : (m : Prolog) (r q : List Symbol) → prolog_spelt m (r ++ q) ≡ prolog_spelt m r ++ q
+prolog_cut Undeclared r q = refl
+prolog_cut (Declared d) r q =
+    let e = mark d.asks Question ∷ mark d.greater Greater ∷ r in
+    ap (clauses_spelt d.clauses) (spelt_cut d.blanks e q) ∙ clauses_cut d.clauses (spelt d.blanks e) q
+prolog_cut (Following m s h) r q = prolog_cut m (s ∷ r) q
+prolog_cut (Helped m x) r q = ap (prolog_spelt m) (aside_cut x r q) ∙ prolog_cut m (aside_spelt x r) q
+
 mutual
   pub element_cut : (e : Element) (r q : List Symbol) → element_spelt e (r ++ q) ≡ element_spelt e r ++ q
   element_cut (Full t g is e) r q =
@@ -76,9 +121,11 @@ mutual
       ∙ ap (λ u. tag_spelt t (mark g Greater ∷ u)) (items_cut is (end_spelt e r) q)
       ∙ tag_cut t (mark g Greater ∷ items_spelt is (end_spelt e r)) q
   element_cut (EmptyElem t s g) r q = tag_cut t (mark s Slash ∷ mark g Greater ∷ r) q
+
   items_cut : (is : Items) (r q : List Symbol) → items_spelt is (r ++ q) ≡ items_spelt is r ++ q
   items_cut Nothing r q = refl
   items_cut (Then is i) r q = ap (items_spelt is) (item_cut i r q) ∙ items_cut is (item_spelt i r) q
+
   item_cut : (i : Item) (r q : List Symbol) → item_spelt i (r ++ q) ≡ item_spelt i r ++ q
   item_cut (Sub e) r q = element_cut e r q
   item_cut (Text s h) r q = refl
@@ -86,16 +133,17 @@ mutual
   item_cut (Passed a) r q = aside_cut a r q
 
 pub opens_cut : (z : Opens) (r q : List Symbol) → opens_spelt z (r ++ q) ≡ opens_spelt z r ++ q
-opens_cut (Bottom m) r q = miscs_cut m r q
+opens_cut (Bottom m) r q = prolog_cut m r q
 opens_cut (Opened z t g is) r q =
     ap (λ u. opens_spelt z (tag_spelt t (mark g Greater ∷ u))) (items_cut is r q)
     ∙ ap (opens_spelt z) (tag_cut t (mark g Greater ∷ items_spelt is r) q)
     ∙ opens_cut z (tag_spelt t (mark g Greater ∷ items_spelt is r)) q
 
 pub around_cut : (a : ZAround) (r q : List Symbol) → around_spelt a (r ++ q) ≡ around_spelt a r ++ q
-around_cut (ZBefore m) r q = miscs_cut m r q
+around_cut ZFirst r q = refl
+around_cut (ZBefore m) r q = prolog_cut m r q
 around_cut (ZWithin z t g is) r q = opens_cut (Opened z t g is) r q
 around_cut (ZAfter m e k) r q =
-    ap (λ u. miscs_spelt m (element_spelt e u)) (miscs_cut k r q)
-    ∙ ap (miscs_spelt m) (element_cut e (miscs_spelt k r) q)
-    ∙ miscs_cut m (element_spelt e (miscs_spelt k r)) q
+    ap (λ u. prolog_spelt m (element_spelt e u)) (miscs_cut k r q)
+    ∙ ap (prolog_spelt m) (element_cut e (miscs_spelt k r) q)
+    ∙ prolog_cut m (element_spelt e (miscs_spelt k r)) q

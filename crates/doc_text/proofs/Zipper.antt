@@ -1,15 +1,15 @@
 -- What has been written where reading stands: for each state of the machine the parts of the form that came before.
-use Rattle.std.specs.Prelude.{◌≡◌, List, [], ◌∷◌, Bool, true, false}
+use Rattle.std.specs.Prelude.{◌≡◌, List, [], ◌∷◌, Bool, true, false, codes, ℕ, ◌++◌}
 use Rattle.atl_base.specs.declared.place.Place.{Place}
-use Rattle.doc_text.specs.Symbols.{Less, Greater, Slash, And, Equals, Bang, Question, Hash, Colon, Dash, Symbol, mark, quote, is_blank, is_good, is_decimal, is_ex, is_hexadecimal}
+use Rattle.doc_text.specs.Symbols.{Less, Greater, Slash, And, Equals, Bang, Question, Hash, Colon, Dash, Symbol, mark, quote, is_blank, is_good, is_decimal, is_ex, is_hexadecimal, is_quoted, is_word}
 use Rattle.doc_text.specs.Raw.{Start, start, same_name}
-use Rattle.doc_text.specs.Form.{Run, spelt, Plain, plain_spelt, plain_bytes, QName, name_spelt, name_of, one_more, counted, Values, values_spelt, value_of, Gap, gap_spelt, Attributes, attributes_spelt, pairs_of, Tag, tag_spelt, start_of, Remarks, remarks_spelt, ends_asking, IsUnclosed, is_reserved, Miscs, miscs_spelt, Element, element_spelt, Items, items_spelt, tree_of, trees_of, brackets}
-use Rattle.doc_text.specs.Conditions.{passes, is_shallow, AttributesFit, ValueFits, TagFits, ElementFits, ItemsFit}
-use Rattle.doc_text.specs.Machine.{Open, opened, tags, Around, Before, Within, After, Bearer, OfStart, OfAttribute, OfEnd, Citing, InText, InValue, Cited, Nameless, ByEntity, Hashed, Decimal, Hexed, Hexadecimal, State, Prolog, Inside, Epilog, Begun, Banged, BangDash, Remarking, RemarkDash, RemarkEnd, Asked, Targeting, TargetEnd, Telling, Naming, Coloned, Localing, Spaced, Valued, Shutting, Equalling, Opening, Valuing, Ending, Closing, Citation}
+use Rattle.doc_text.specs.Form.{Run, spelt, Plain, plain_spelt, plain_bytes, QName, name_spelt, name_of, one_more, counted, Values, values_spelt, value_of, Gap, gap_spelt, Attributes, attributes_spelt, pairs_of, Tag, tag_spelt, start_of, Remarks, remarks_spelt, ends_asking, IsUnclosed, is_reserved, codes_of, Word, Title, title_spelt, Heading, heading_spelt, VersionInfo, version_spelt, first_place, answer, Told, Versioned, Encoded, told_spelt, Clauses, Only, Standing, clauses_spelt, Prolog, prolog_spelt, Miscs, miscs_spelt, Element, element_spelt, Items, items_spelt, tree_of, trees_of, brackets, joined}
+use Rattle.doc_text.specs.Conditions.{PrologFits, ClausesFit, ToldFits, passes, is_shallow, AttributesFit, ValueFits, TagFits, ElementFits, ItemsFit}
+use Rattle.doc_text.specs.Machine.{Stage, Untold, ToldVersion, ToldEncoding, ToldStanding, Clause, OfVersion, OfEncoding, OfStanding, word_of, Beginning, Declaring, Wording, Equating, Quoting, Numbering, Numbered, Encoding, Answer, Answering, Stated, DeclEnd, Open, opened, tags, Around, First, Before, Within, After, Bearer, OfStart, OfAttribute, OfEnd, Citing, InText, InValue, Cited, Nameless, ByEntity, Hashed, Decimal, Hexed, Hexadecimal, State, InProlog, Inside, Epilog, Begun, Banged, BangDash, Remarking, RemarkDash, RemarkEnd, Asked, Targeting, TargetEnd, Telling, Naming, Coloned, Localing, Spaced, Valued, Shutting, Equalling, Opening, Valuing, Ending, Closing, Citation}
 
 -- the open elements: what came before the root, then each start tag with what was read in it
 pub data Opens : Type 0 where
-  Bottom : Miscs → Opens
+  Bottom : Prolog → Opens
   Opened : Opens → Tag → Place → Items → Opens
 
 abbrev pub opens_value : Opens → List Open
@@ -20,23 +20,26 @@ abbrev pub scope : Opens → List Start
 scope z = tags (opens_value z)
 
 abbrev pub opens_spelt : Opens → List Symbol → List Symbol
-opens_spelt (Bottom m) rest = miscs_spelt m rest
+opens_spelt (Bottom m) rest = prolog_spelt m rest
 opens_spelt (Opened z t g is) rest = opens_spelt z (tag_spelt t (mark g Greater ∷ items_spelt is rest))
 
 pub data ZAround : Type 0 where
-  ZBefore : Miscs → ZAround
+  ZFirst : ZAround
+  ZBefore : Prolog → ZAround
   ZWithin : Opens → Tag → Place → Items → ZAround
-  ZAfter : Miscs → Element → Miscs → ZAround
+  ZAfter : Prolog → Element → Miscs → ZAround
 
 abbrev pub around_value : ZAround → Around
+around_value ZFirst = First
 around_value (ZBefore m) = Before
 around_value (ZWithin z t g is) = Within (opened (start_of t) (trees_of is)) (opens_value z)
 around_value (ZAfter m e k) = After (tree_of e)
 
 abbrev pub around_spelt : ZAround → List Symbol → List Symbol
-around_spelt (ZBefore m) rest = miscs_spelt m rest
+around_spelt ZFirst rest = rest
+around_spelt (ZBefore m) rest = prolog_spelt m rest
 around_spelt (ZWithin z t g is) rest = opens_spelt (Opened z t g is) rest
-around_spelt (ZAfter m e k) rest = miscs_spelt m (element_spelt e (miscs_spelt k rest))
+around_spelt (ZAfter m e k) rest = prolog_spelt m (element_spelt e (miscs_spelt k rest))
 
 -- a start tag so far, without the blanks that end it
 pub record Part : Type 0 where
@@ -124,10 +127,52 @@ pub record Pointed : Type 0 where
 abbrev pub pointed_spelt : Pointed → List Symbol → List Symbol
 pointed_spelt i rest = mark i.less Less ∷ mark i.asks Question ∷ plain_spelt i.target rest
 
+-- the declaration so far, and the clause that is read after what
+pub data Sofar : Type 0 where
+  Titled : Title → Sofar
+  Claused : Clauses → Sofar
+
+abbrev pub sofar_spelt : Sofar → List Symbol → List Symbol
+sofar_spelt (Titled t) rest = title_spelt t rest
+sofar_spelt (Claused c) rest = clauses_spelt c rest
+
+abbrev pub stage_of : Sofar → Stage
+stage_of (Titled t) = Untold
+stage_of (Claused (Only (Versioned t v))) = ToldVersion
+stage_of (Claused (Only (Encoded t v e))) = ToldEncoding
+stage_of (Claused (Standing t d)) = ToldStanding
+
+pub data Prior : Type 0 where
+  AtVersion : Title → Prior
+  AtEncoding : Title → VersionInfo → Prior
+  AtStanding : Told → Prior
+
+abbrev pub prior_spelt : Prior → List Symbol → List Symbol
+prior_spelt (AtVersion t) rest = title_spelt t rest
+prior_spelt (AtEncoding t v) rest = title_spelt t (version_spelt v rest)
+prior_spelt (AtStanding t) rest = told_spelt t rest
+
+abbrev pub prior_clause : Prior → Clause
+prior_clause (AtVersion t) = OfVersion
+prior_clause (AtEncoding t v) = OfEncoding
+prior_clause (AtStanding t) = OfStanding
+
 pub data Zip : Type 0 where
-  ZProlog : Miscs → Zip
+  ZBeginning : Zip
+  ZDeclaring : Sofar → Gap → Zip
+  ZWording : (q : Prior) → Gap → (run : Run is_word) → (left : List ℕ) → codes_of run ++ left ≡ word_of (prior_clause q) → Zip
+  ZEquating : (q : Prior) → Gap → Word (word_of (prior_clause q)) → Run is_blank → Zip
+  ZQuoting : (q : Prior) → Gap → Word (word_of (prior_clause q)) → Run is_blank → Place → Run is_blank → Zip
+  ZNumbering : Title → Heading (codes "version") → (run : Run is_word) → (left : List ℕ) → codes_of run ++ left ≡ codes "1." → Zip
+  ZNumbered : Title → Heading (codes "version") → Word (codes "1.") → (s : Symbol) → is_decimal s.kind ≡ true → Run is_decimal → Zip
+  ZEncoding : Title → VersionInfo → (h : Heading (codes "encoding")) → Run (is_quoted h.double) → Zip
+  ZAnswer : Told → Heading (codes "standalone") → Zip
+  ZAnswering : Told → Heading (codes "standalone") → (yes : Bool) → (run : Run is_word) → (left : List ℕ) → codes_of run ++ left ≡ answer yes → Zip
+  ZStated : Clauses → Zip
+  ZDeclEnd : Clauses → Run is_blank → Place → Zip
+  ZProlog : Prolog → Zip
   ZInside : Opens → Tag → Place → Items → Zip
-  ZEpilog : Miscs → Element → Miscs → Zip
+  ZEpilog : Prolog → Element → Miscs → Zip
   ZBegun : ZAround → Place → Zip
   ZBanged : ZAround → Place → Place → Zip
   ZBangDash : ZAround → Place → Place → Place → Zip
@@ -153,7 +198,19 @@ pub data Zip : Type 0 where
   ZCitation : ZCiting → Place → ZCited → Zip
 
 abbrev pub value : Zip → State
-value (ZProlog m) = Prolog
+value ZBeginning = Beginning
+value (ZDeclaring f g) = Declaring (stage_of f)
+value (ZWording q g run left i) = Wording (prior_clause q) left
+value (ZEquating q g w b) = Equating (prior_clause q)
+value (ZQuoting q g w b e c) = Quoting (prior_clause q)
+value (ZNumbering t h run left i) = Numbering h.double left
+value (ZNumbered t h w s i run) = Numbered h.double
+value (ZEncoding t v h run) = Encoding h.double (first_place run) (joined [] run)
+value (ZAnswer t h) = Answer h.double
+value (ZAnswering t h y run left i) = Answering h.double left
+value (ZStated c) = Stated (stage_of (Claused c))
+value (ZDeclEnd c b q) = DeclEnd
+value (ZProlog m) = InProlog
 value (ZInside z t g is) = Inside (brackets is) (opened (start_of t) (trees_of is)) (opens_value z)
 value (ZEpilog m e k) = Epilog (tree_of e)
 value (ZBegun a p) = Begun (around_value a) p
@@ -182,9 +239,21 @@ value (ZCitation c p x) = Citation (citing_value c) p (cited_value x)
 
 -- the characters before the rest
 abbrev pub before : Zip → List Symbol → List Symbol
-before (ZProlog m) rest = miscs_spelt m rest
+before ZBeginning rest = rest
+before (ZDeclaring f g) rest = sofar_spelt f (gap_spelt g rest)
+before (ZWording q g run left i) rest = prior_spelt q (gap_spelt g (spelt run rest))
+before (ZEquating q g w b) rest = prior_spelt q (gap_spelt g (spelt w.run (spelt b rest)))
+before (ZQuoting q g w b e c) rest = prior_spelt q (gap_spelt g (spelt w.run (spelt b (mark e Equals ∷ spelt c rest))))
+before (ZNumbering t h run left i) rest = title_spelt t (heading_spelt h (spelt run rest))
+before (ZNumbered t h w s i run) rest = title_spelt t (heading_spelt h (spelt w.run (s ∷ spelt run rest)))
+before (ZEncoding t v h run) rest = title_spelt t (version_spelt v (heading_spelt h (spelt run rest)))
+before (ZAnswer t h) rest = told_spelt t (heading_spelt h rest)
+before (ZAnswering t h y run left i) rest = told_spelt t (heading_spelt h (spelt run rest))
+before (ZStated c) rest = clauses_spelt c rest
+before (ZDeclEnd c b q) rest = clauses_spelt c (spelt b (mark q Question ∷ rest))
+before (ZProlog m) rest = prolog_spelt m rest
 before (ZInside z t g is) rest = opens_spelt (Opened z t g is) rest
-before (ZEpilog m e k) rest = miscs_spelt m (element_spelt e (miscs_spelt k rest))
+before (ZEpilog m e k) rest = prolog_spelt m (element_spelt e (miscs_spelt k rest))
 before (ZBegun a p) rest = around_spelt a (mark p Less ∷ rest)
 before (ZBanged a p q) rest = around_spelt a (mark p Less ∷ mark q Bang ∷ rest)
 before (ZBangDash a p q r) rest = around_spelt a (mark p Less ∷ mark q Bang ∷ mark r Dash ∷ rest)
@@ -211,13 +280,14 @@ before (ZCitation c p x) rest = citing_spelt c (mark p And ∷ cited_spelt x res
 
 module _ (strict : Bool) where
   abbrev pub OpensFit : Opens → Type 0
-  OpensFit (Bottom m) = Unit {0}
+  OpensFit (Bottom m) = PrologFits strict m
   OpensFit (Opened z t g is) = OpensFit z × TagFits strict (scope z) t × ItemsFit strict (start_of t ∷ scope z) is
 
   abbrev pub AroundFit : ZAround → Type 0
-  AroundFit (ZBefore m) = Unit {0}
+  AroundFit ZFirst = Unit {0}
+  AroundFit (ZBefore m) = PrologFits strict m
   AroundFit (ZWithin z t g is) = OpensFit (Opened z t g is)
-  AroundFit (ZAfter m e k) = ElementFits strict [] e
+  AroundFit (ZAfter m e k) = PrologFits strict m × ElementFits strict [] e
 
   abbrev pub PartFits : Opens → Part → Type 0
   PartFits z t = OpensFit z × (passes strict (is_shallow (scope z)) ≡ true) × AttributesFit strict t.attributes
@@ -231,11 +301,32 @@ module _ (strict : Bool) where
   CitingFits (ZText z t g is) = OpensFit (Opened z t g is)
   CitingFits (ZValue z t h v) = PartFits z t × ValueFits strict v
 
+  abbrev pub SofarFits : Sofar → Type 0
+  SofarFits (Titled t) = Unit {0}
+  SofarFits (Claused c) = ClausesFit strict c
+
+  abbrev pub PriorFits : Prior → Type 0
+  PriorFits (AtVersion t) = Unit {0}
+  PriorFits (AtEncoding t v) = Unit {0}
+  PriorFits (AtStanding t) = ToldFits strict t
+
   -- the conditions so far
   abbrev pub Fits : Zip → Type 0
-  Fits (ZProlog m) = Unit {0}
+  Fits ZBeginning = Unit {0}
+  Fits (ZDeclaring f g) = SofarFits f
+  Fits (ZWording q g run left i) = PriorFits q
+  Fits (ZEquating q g w b) = PriorFits q
+  Fits (ZQuoting q g w b e c) = PriorFits q
+  Fits (ZNumbering t h run left i) = Unit {0}
+  Fits (ZNumbered t h w s i run) = Unit {0}
+  Fits (ZEncoding t v h run) = Unit {0}
+  Fits (ZAnswer t h) = ToldFits strict t
+  Fits (ZAnswering t h y run left i) = ToldFits strict t
+  Fits (ZStated c) = ClausesFit strict c
+  Fits (ZDeclEnd c b q) = ClausesFit strict c
+  Fits (ZProlog m) = PrologFits strict m
   Fits (ZInside z t g is) = OpensFit (Opened z t g is)
-  Fits (ZEpilog m e k) = ElementFits strict [] e
+  Fits (ZEpilog m e k) = PrologFits strict m × ElementFits strict [] e
   Fits (ZBegun a p) = AroundFit a
   Fits (ZBanged a p q) = AroundFit a
   Fits (ZBangDash a p q r) = AroundFit a

@@ -1,12 +1,12 @@
 -- What a document keeps apart from its form, and where a condition fails in what is written.
-use Rattle.std.specs.Prelude.{ℕ, ◌≡◌, ◌⊎◌, ◌||◌, List, [], ◌∷◌, length, Bool, true, false, if◌then◌else◌, nat_lt, bytes_eq, codes, is_none, Some}
+use Rattle.std.specs.Prelude.{ℕ, ◌≡◌, ◌⊎◌, ◌||◌, List, [], ◌∷◌, length, Bool, true, false, if◌then◌else◌, nat_lt, bytes_eq, codes, is_none, Some, ◌+◌, ◌&&◌, map, nat_le}
 use Rattle.atl_base.specs.XmlText.{is_xml_character}
 use Rattle.atl_base.specs.declared.place.Place.{Place}
 use Rattle.doc_text.specs.Raw.{Start, same_name, Tree}
-use Rattle.doc_text.specs.Faults.{Fault, MismatchedEnd, Entity, TooDeep, BadByte}
+use Rattle.doc_text.specs.Faults.{Fault, BadEncoding, MismatchedEnd, Entity, TooDeep, BadByte}
 use Rattle.doc_text.specs.Namespaces.{tag_fault}
 use Rattle.doc_text.specs.Symbols.{Symbol}
-use Rattle.doc_text.specs.Form.{Reference, reference_at, Target, ByName, ByNumber, target_of, Values, Empty, Char, Refer, Attributes, Alone, Further, Tag, start_of, name_of, Element, Full, EmptyElem, Items, Nothing, Then, Item, Sub, Text, Referred, Passed, Document, document_spelt, brackets, IsApart, tree_of}
+use Rattle.doc_text.specs.Form.{Reference, reference_at, Target, ByName, ByNumber, target_of, Values, Empty, Char, Refer, Attributes, Alone, Further, Tag, start_of, name_of, Element, Full, EmptyElem, Items, Nothing, Then, Item, Sub, Text, Referred, Passed, Prolog, Undeclared, Declared, Following, Helped, Told, Versioned, Encoded, Clauses, Only, Standing, EncodingDecl, encoding_at, joined, Document, document_spelt, brackets, IsApart, tree_of}
 
 -- a condition counts where it is asked for
 abbrev pub passes : Bool → Bool → Bool
@@ -53,18 +53,51 @@ module _ (strict : Bool) where
     pub ElementFits : List Start → Element → Type 0
     ElementFits outer (Full t g is e) = TagFits outer t × ItemsFit (start_of t ∷ outer) is × (passes strict (same_name (name_of e.name) (name_of t.name)) ≡ true)
     ElementFits outer (EmptyElem t s g) = TagFits outer t
+
     pub ItemsFit : List Start → Items → Type 0
     ItemsFit outer Nothing = Unit {0}
     ItemsFit outer (Then is i) = ItemsFit outer is × ItemFits outer i × IsApart (brackets is) i
+
     pub ItemFits : List Start → Item → Type 0
     ItemFits outer (Sub e) = ElementFits outer e
     ItemFits outer (Text s h) = Unit {0}
     ItemFits outer (Referred r) = ReferenceFits r
     ItemFits outer (Passed a) = Unit {0}
 
+-- the encodings that are read, their letters in any case
+abbrev pub lower : ℕ → ℕ
+lower c = if nat_le 65 c && nat_le c 90 then c + 32 else c
+
+abbrev pub is_named : List ℕ → Bool
+is_named name = bytes_eq name (codes "utf-8") || bytes_eq name (codes "ascii") || bytes_eq name (codes "us-ascii") || bytes_eq name (codes "iso-8859-1")
+
+abbrev pub is_encoding : List ℕ → Bool
+is_encoding bytes = is_named (map lower bytes)
+
+module _ (strict : Bool) where
+  abbrev pub EncodingFits : EncodingDecl → Type 0
+  EncodingFits e = passes strict (is_encoding (joined [] e.name)) ≡ true
+
+  abbrev pub ToldFits : Told → Type 0
+  ToldFits (Versioned t v) = Unit {0}
+  ToldFits (Encoded t v e) = EncodingFits e
+
+  abbrev pub ClausesFit : Clauses → Type 0
+  ClausesFit (Only t) = ToldFits t
+  ClausesFit (Standing t d) = ToldFits t
+
+  abbrev pub PrologFits : Prolog → Type 0
+  PrologFits Undeclared = Unit {0}
+  PrologFits (Declared d) = ClausesFit d.clauses
+  PrologFits (Following m s h) = PrologFits m
+  PrologFits (Helped m a) = PrologFits m
+
+  abbrev pub DocumentFits : Document → Type 0
+  DocumentFits d = PrologFits d.prolog × ElementFits strict [] d.root
+
 -- these characters are a document with this root: of the form, and where it is strict also with all conditions
 abbrev pub IsDocument : Bool → List Symbol → Tree → Type 0
-IsDocument strict ss root = (d : Document) × ElementFits strict [] d.root × (document_spelt d ≡ ss) × (tree_of d.root ≡ root)
+IsDocument strict ss root = (d : Document) × DocumentFits strict d × (document_spelt d ≡ ss) × (tree_of d.root ≡ root)
 
 -- a condition fails: for this reason, at this place
 abbrev pub ReferenceFails : Fault → Place → Reference → Type 0
@@ -86,11 +119,33 @@ abbrev mutual
   pub ElementFails : Fault → Place → List Start → Element → Type 0
   ElementFails e p outer (Full t g is f) = TagFails e p outer t ⊎ (ItemsFail e p (start_of t ∷ outer) is ⊎ ((e ≡ MismatchedEnd) × (p ≡ (name_of f.name).at) × (same_name (name_of f.name) (name_of t.name) ≡ false)))
   ElementFails e p outer (EmptyElem t s g) = TagFails e p outer t
+
   pub ItemsFail : Fault → Place → List Start → Items → Type 0
   ItemsFail e p outer Nothing = ⊥
   ItemsFail e p outer (Then is i) = ItemsFail e p outer is ⊎ ItemFails e p outer i
+
   pub ItemFails : Fault → Place → List Start → Item → Type 0
   ItemFails e p outer (Sub x) = ElementFails e p outer x
   ItemFails e p outer (Text s h) = ⊥
   ItemFails e p outer (Referred r) = ReferenceFails e p r
   ItemFails e p outer (Passed a) = ⊥
+
+abbrev pub EncodingFails : Fault → Place → EncodingDecl → Type 0
+EncodingFails e p x = (e ≡ BadEncoding) × (p ≡ encoding_at x) × (is_encoding (joined [] x.name) ≡ false)
+
+abbrev pub ToldFails : Fault → Place → Told → Type 0
+ToldFails e p (Versioned t v) = ⊥
+ToldFails e p (Encoded t v x) = EncodingFails e p x
+
+abbrev pub ClausesFail : Fault → Place → Clauses → Type 0
+ClausesFail e p (Only t) = ToldFails e p t
+ClausesFail e p (Standing t d) = ToldFails e p t
+
+abbrev pub PrologFails : Fault → Place → Prolog → Type 0
+PrologFails e p Undeclared = ⊥
+PrologFails e p (Declared d) = ClausesFail e p d.clauses
+PrologFails e p (Following m s h) = PrologFails e p m
+PrologFails e p (Helped m a) = PrologFails e p m
+
+abbrev pub DocumentFails : Fault → Place → Document → Type 0
+DocumentFails e p d = PrologFails e p d.prolog ⊎ ElementFails e p [] d.root

@@ -1,8 +1,8 @@
 -- What is written in a document, production by production of XML 1.0 (and Namespaces in XML 1.0 for names), with its
 -- characters and what it means. `spelt x rest` are the characters of x and then the rest.
-use Rattle.std.specs.Prelude.{ℕ, ◌+◌, ◌*◌, ◌≡◌, ◌&&◌, ◌||◌, ◌==◌, min, encode_utf8, List, [], ◌∷◌, ◌++◌, Bool, true, false, if◌then◌else◌, nat_eq, codes, bytes_eq}
+use Rattle.std.specs.Prelude.{Option, Some, None, ℕ, ◌+◌, ◌*◌, ◌≡◌, ◌&&◌, ◌||◌, ◌==◌, min, encode_utf8, List, [], ◌∷◌, ◌++◌, Bool, true, false, if◌then◌else◌, nat_eq, codes, bytes_eq}
 use Rattle.atl_base.specs.declared.place.Place.{Place}
-use Rattle.doc_text.specs.Symbols.{Kind, Less, Greater, Slash, And, Semicolon, Equals, Bang, Question, Bracket, Hash, Colon, Dash, Blank, Symbol, mark, utf8, is_good, is_blank, is_start, is_name, is_greater, is_question, is_undashed, is_text, is_value, is_decimal, is_ex, is_hexadecimal, digit, quote}
+use Rattle.doc_text.specs.Symbols.{Kind, Less, Greater, Slash, And, Semicolon, Equals, Bang, Question, Bracket, Hash, Colon, Dash, Blank, Symbol, mark, code_of, utf8, is_good, is_blank, is_start, is_name, is_greater, is_question, is_undashed, is_text, is_value, is_decimal, is_ex, is_hexadecimal, digit, quote, is_quoted, is_word}
 use Rattle.doc_text.specs.Raw.{Name, called, Pair, pair, Start, start, Tree, Node, Trees, Nil, Also, add_text}
 
 -- a run of characters of one sort, as long as it was read
@@ -183,10 +183,17 @@ abbrev pub IsUnclosed : Run is_good → Type 0
 IsUnclosed No = Unit {0}
 IsUnclosed (More run s h) = IsUnclosed run × (is_greater s.kind && ends_asking run ≡ false)
 
+abbrev pub is_xml : List ℕ → Bool
+is_xml (x ∷ m ∷ l ∷ []) = x == 120 && m == 109 && l == 108
+is_xml bytes = false
+
+abbrev pub is_any_xml : List ℕ → Bool
+is_any_xml (x ∷ m ∷ l ∷ []) = (x == 120 || x == 88) && (m == 109 || m == 77) && (l == 108 || l == 76)
+is_any_xml bytes = false
+
 -- a target is not `xml`, in any case
 abbrev pub is_reserved : List ℕ → Bool
-is_reserved (x ∷ m ∷ l ∷ []) = (x == 120 || x == 88) && (m == 109 || m == 77) && (l == 108 || l == 76)
-is_reserved bytes = false
+is_reserved bytes = if is_xml bytes then true else is_any_xml bytes
 
 -- Comment and PI
 pub data Aside : Type 0 where
@@ -198,6 +205,124 @@ abbrev pub aside_spelt : Aside → List Symbol → List Symbol
 aside_spelt (Comment p q r s c t u v) rest = mark p Less ∷ mark q Bang ∷ mark r Dash ∷ mark s Dash ∷ remarks_spelt c (mark t Dash ∷ mark u Dash ∷ mark v Greater ∷ rest)
 aside_spelt (PI p q n h t u) rest = mark p Less ∷ mark q Question ∷ plain_spelt n (mark t Question ∷ mark u Greater ∷ rest)
 aside_spelt (PISaying p q n h s e run g t u) rest = mark p Less ∷ mark q Question ∷ plain_spelt n (s ∷ spelt run (mark t Question ∷ mark u Greater ∷ rest))
+
+-- characters that spell a word
+abbrev pub codes_of : {of : Kind → Bool} → Run of → List ℕ
+codes_of No = []
+codes_of (More run s h) = codes_of run ++ (code_of s.kind ∷ [])
+
+pub record Word (text : List ℕ) : Type 0 where
+  pub run : Run is_word
+  pub is : codes_of run ≡ text
+
+-- <?xml
+pub record Title : Type 0 where
+  pub less : Place
+  pub asks : Place
+  pub target : Plain
+  pub is : is_xml (plain_bytes target) ≡ true
+
+abbrev pub title_spelt : Title → List Symbol → List Symbol
+title_spelt t rest = mark t.less Less ∷ mark t.asks Question ∷ plain_spelt t.target rest
+
+-- S, a word, Eq and a quote
+pub record Heading (text : List ℕ) : Type 0 where
+  pub gap : Gap
+  pub word : Word text
+  pub before : Run is_blank
+  pub equals : Place
+  pub after : Run is_blank
+  pub double : Bool
+  pub opens : Place
+
+abbrev pub heading_spelt : {text : List ℕ} → Heading text → List Symbol → List Symbol
+heading_spelt h rest = gap_spelt h.gap (spelt h.word.run (spelt h.before (mark h.equals Equals ∷ spelt h.after (mark h.opens (quote h.double) ∷ rest))))
+
+-- VersionInfo, with 1. and digits
+pub record VersionInfo : Type 0 where
+  pub heading : Heading (codes "version")
+  pub one : Word (codes "1.")
+  pub digit : Symbol
+  pub is_digit : is_decimal digit.kind ≡ true
+  pub digits : Run is_decimal
+  pub closes : Place
+
+abbrev pub version_spelt : VersionInfo → List Symbol → List Symbol
+version_spelt v rest = heading_spelt v.heading (spelt v.one.run (v.digit ∷ spelt v.digits (mark v.closes (quote v.heading.double) ∷ rest)))
+
+-- EncodingDecl, with anything between the quotes
+pub record EncodingDecl : Type 0 where
+  pub heading : Heading (codes "encoding")
+  pub name : Run (is_quoted heading.double)
+  pub closes : Place
+
+abbrev pub encoding_spelt : EncodingDecl → List Symbol → List Symbol
+encoding_spelt e rest = heading_spelt e.heading (spelt e.name (mark e.closes (quote e.heading.double) ∷ rest))
+
+-- the first place of a run, if it has one
+abbrev pub place_or : Option Place → Place → Place
+place_or (Some p) q = p
+place_or None q = q
+
+abbrev pub first_place : {of : Kind → Bool} → Run of → Option Place
+first_place No = None
+first_place (More run s h) = Some (place_or (first_place run) s.at)
+
+-- the first character after the opening quote
+abbrev pub encoding_at : EncodingDecl → Place
+encoding_at e = place_or (first_place e.name) e.closes
+
+-- SDDecl
+abbrev pub answer : Bool → List ℕ
+answer true = codes "yes"
+answer false = codes "no"
+
+pub record SDDecl : Type 0 where
+  pub heading : Heading (codes "standalone")
+  pub yes : Bool
+  pub word : Word (answer yes)
+  pub closes : Place
+
+abbrev pub standalone_spelt : SDDecl → List Symbol → List Symbol
+standalone_spelt d rest = heading_spelt d.heading (spelt d.word.run (mark d.closes (quote d.heading.double) ∷ rest))
+
+pub data Told : Type 0 where
+  Versioned : Title → VersionInfo → Told
+  Encoded : Title → VersionInfo → EncodingDecl → Told
+
+abbrev pub told_spelt : Told → List Symbol → List Symbol
+told_spelt (Versioned t v) rest = title_spelt t (version_spelt v rest)
+told_spelt (Encoded t v e) rest = title_spelt t (version_spelt v (encoding_spelt e rest))
+
+pub data Clauses : Type 0 where
+  Only : Told → Clauses
+  Standing : Told → SDDecl → Clauses
+
+abbrev pub clauses_spelt : Clauses → List Symbol → List Symbol
+clauses_spelt (Only t) rest = told_spelt t rest
+clauses_spelt (Standing t d) rest = told_spelt t (standalone_spelt d rest)
+
+pub record XMLDecl : Type 0 where
+  pub clauses : Clauses
+  pub blanks : Run is_blank
+  pub asks : Place
+  pub greater : Place
+
+abbrev pub declaration_spelt : XMLDecl → List Symbol → List Symbol
+declaration_spelt d rest = clauses_spelt d.clauses (spelt d.blanks (mark d.asks Question ∷ mark d.greater Greater ∷ rest))
+
+-- prolog: XMLDecl? Misc*
+pub data Prolog : Type 0 where
+  Undeclared : Prolog
+  Declared : XMLDecl → Prolog
+  Following : Prolog → (s : Symbol) → is_blank s.kind ≡ true → Prolog
+  Helped : Prolog → Aside → Prolog
+
+abbrev pub prolog_spelt : Prolog → List Symbol → List Symbol
+prolog_spelt Undeclared rest = rest
+prolog_spelt (Declared d) rest = declaration_spelt d rest
+prolog_spelt (Following m s h) rest = prolog_spelt m (s ∷ rest)
+prolog_spelt (Helped m a) rest = prolog_spelt m (aside_spelt a rest)
 
 -- Misc*
 pub data Miscs : Type 0 where
@@ -215,9 +340,11 @@ mutual
   pub data Element : Type 0 where
     Full : Tag → Place → Items → ETag → Element
     EmptyElem : Tag → Place → Place → Element
+
   pub data Items : Type 0 where
     Nothing : Items
     Then : Items → Item → Items
+
   pub data Item : Type 0 where
     Sub : Element → Item
     Text : (s : Symbol) → is_text s.kind ≡ true → Item
@@ -228,9 +355,11 @@ abbrev mutual
   pub element_spelt : Element → List Symbol → List Symbol
   element_spelt (Full t g is e) rest = tag_spelt t (mark g Greater ∷ items_spelt is (end_spelt e rest))
   element_spelt (EmptyElem t s g) rest = tag_spelt t (mark s Slash ∷ mark g Greater ∷ rest)
+
   pub items_spelt : Items → List Symbol → List Symbol
   items_spelt Nothing rest = rest
   items_spelt (Then is i) rest = items_spelt is (item_spelt i rest)
+
   pub item_spelt : Item → List Symbol → List Symbol
   item_spelt (Sub e) rest = element_spelt e rest
   item_spelt (Text s h) rest = s ∷ rest
@@ -241,9 +370,11 @@ abbrev mutual
   pub tree_of : Element → Tree
   tree_of (Full t g is e) = Node (start_of t) (trees_of is)
   tree_of (EmptyElem t s g) = Node (start_of t) Nil
+
   pub trees_of : Items → Trees
   trees_of Nothing = Nil
   trees_of (Then is i) = grown (trees_of is) i
+
   pub grown : Trees → Item → Trees
   grown ts (Sub e) = Also ts (tree_of e)
   grown ts (Text s h) = add_text (utf8 s.kind) ts
@@ -267,11 +398,11 @@ abbrev pub IsApart : ℕ → Item → Type 0
 IsApart n (Text s h) = is_greater s.kind && nat_eq n 2 ≡ false
 IsApart n i = Unit {0}
 
--- prolog without its declaration, root and what follows
+-- document: prolog element Misc*
 pub record Document : Type 0 where
-  pub prolog : Miscs
+  pub prolog : Prolog
   pub root : Element
   pub epilog : Miscs
 
 abbrev pub document_spelt : Document → List Symbol
-document_spelt d = miscs_spelt d.prolog (element_spelt d.root (miscs_spelt d.epilog []))
+document_spelt d = prolog_spelt d.prolog (element_spelt d.root (miscs_spelt d.epilog []))

@@ -5,7 +5,7 @@ use Rattle.doc_text.specs.Symbols.{Symbol, mark, Less, Bang, Dash, is_good}
 use Rattle.doc_text.specs.Raw.{Tree}
 use Rattle.doc_text.specs.Faults.{Fault, BadByte, Expected, Trailing, Unsupported}
 use Rattle.doc_text.specs.Form.{Document, document_spelt}
-use Rattle.doc_text.specs.Conditions.{IsDocument, ElementFits, ElementFails}
+use Rattle.doc_text.specs.Conditions.{IsDocument, DocumentFits, DocumentFails}
 use Rattle.doc_text.specs.Machine.{End, Read, Refused, read, declares}
 
 -- the form goes on
@@ -19,8 +19,8 @@ StopsAt strict front (s ∷ rest) = (more : List Symbol) (t : Tree) → IsDocume
 
 -- each text of the form that agrees so far fails a condition of this kind at this place
 abbrev pub FailsAt : Fault → Place → List Symbol → List Symbol → Type 0
-FailsAt e p front [] = (d : Document) → ElementFits false [] d.root → document_spelt d ≡ front → ElementFails e p [] d.root
-FailsAt e p front (s ∷ rest) = (more : List Symbol) (d : Document) → ElementFits false [] d.root → document_spelt d ≡ front ++ (s ∷ more) → ElementFails e p [] d.root
+FailsAt e p front [] = (d : Document) → DocumentFits false d → document_spelt d ≡ front → DocumentFails e p d
+FailsAt e p front (s ∷ rest) = (more : List Symbol) (d : Document) → DocumentFits false d → document_spelt d ≡ front ++ (s ∷ more) → DocumentFails e p d
 
 -- the place of the first character, or the text's end
 abbrev pub place_of : Place → List Symbol → Place

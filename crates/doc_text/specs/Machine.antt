@@ -1,12 +1,12 @@
 -- Reading, one character a step: what is open, the innermost element first, and what may come next.
 use Rattle.std.specs.Prelude.{ℕ, ◌==◌, ◌&&◌, List, [], ◌∷◌, ◌++◌, Bool, true, false, if◌then◌else◌, nat_eq, codes, encode_utf8, Option, Some, None}
 use Rattle.atl_base.specs.declared.place.Place.{Place}
-use Rattle.doc_text.specs.Symbols.{Kind, Less, Greater, Slash, And, Semicolon, Quote, Apostrophe, Equals, Bang, Question, Hash, Colon, Dash, Blank, Letter, Bad, Symbol, code_of, utf8, is_good, is_name, is_value, is_decimal, is_ex, is_hexadecimal}
+use Rattle.doc_text.specs.Symbols.{Kind, Less, Greater, Slash, And, Semicolon, Quote, Apostrophe, Equals, Bang, Question, Hash, Colon, Dash, Blank, Letter, Bad, Symbol, code_of, utf8, is_good, is_name, is_value, is_decimal, is_ex, is_hexadecimal, is_code, is_quote}
 use Rattle.doc_text.specs.Raw.{Name, called, pair, Start, start, Tree, Node, Trees, Nil, Also, add_text, same_name}
-use Rattle.doc_text.specs.Faults.{Fault, BadByte, Expected, MismatchedEnd, TooDeep, Trailing, Unsupported}
+use Rattle.doc_text.specs.Faults.{Fault, BadEncoding, BadByte, Expected, MismatchedEnd, TooDeep, Trailing, Unsupported}
 use Rattle.doc_text.specs.Namespaces.{tag_fault}
-use Rattle.doc_text.specs.Form.{Target, ByName, ByNumber, character_of, one_more, value_bytes, bracketed, is_reserved}
-use Rattle.doc_text.specs.Conditions.{passes, is_known, unknown, is_shallow}
+use Rattle.doc_text.specs.Form.{Target, ByName, ByNumber, character_of, one_more, value_bytes, bracketed, is_xml, is_reserved, place_or}
+use Rattle.doc_text.specs.Conditions.{passes, is_known, unknown, is_shallow, is_encoding}
 
 -- an open element, with what has been read in it
 pub record Open : Type 0 where
@@ -23,8 +23,9 @@ tags (f ∷ fs) = f.tag ∷ tags fs
 abbrev pub grow : Open → List ℕ → Open
 grow f bytes = opened f.tag (add_text bytes f.children)
 
--- where markup stands: before the root, in an element, after the root
+-- where markup stands: at the text's start, before the root, in an element, after the root
 pub data Around : Type 0 where
+  First : Around
   Before : Around
   Within : Open → List Open → Around
   After : Tree → Around
@@ -42,38 +43,63 @@ pub data Citing : Type 0 where
 
 -- what has been read of a reference
 pub data Cited : Type 0 where
-  Nameless : Cited                 -- &
+  Nameless : Cited  -- &
   ByEntity : List ℕ → Cited
-  Hashed : Cited                   -- &#
+  Hashed : Cited  -- &#
   Decimal : ℕ → Cited
-  Hexed : Cited                    -- &#x
+  Hexed : Cited  -- &#x
   Hexadecimal : ℕ → Cited
 
+-- what the declaration has told: nothing, its version, then its encoding, then whether it stands alone
+pub data Stage : Type 0 where
+  Untold : Stage
+  ToldVersion : Stage
+  ToldEncoding : Stage
+  ToldStanding : Stage
+
+-- what it is about to tell
+pub data Clause : Type 0 where
+  OfVersion : Clause
+  OfEncoding : Clause
+  OfStanding : Clause
+
 pub data State : Type 0 where
-  Prolog : State
-  Inside : ℕ → Open → List Open → State          -- after that many brackets
+  Beginning : State
+  Declaring : Stage → State  -- blanks in the declaration
+  Wording : Clause → List ℕ → State  -- that much of the word is left
+  Equating : Clause → State  -- = is wanted
+  Quoting : Clause → State  -- a quote is wanted
+  Numbering : Bool → List ℕ → State  -- that much of 1. is left
+  Numbered : Bool → State
+  Encoding : Bool → Option Place → List ℕ → State
+  Answer : Bool → State
+  Answering : Bool → List ℕ → State  -- that much of the answer is left
+  Stated : Stage → State  -- a value's end
+  DeclEnd : State  -- ? of the declaration
+  InProlog : State
+  Inside : ℕ → Open → List Open → State  -- after that many brackets
   Epilog : Tree → State
-  Begun : Around → Place → State                 -- <
-  Banged : Around → Place → State                -- <!
-  BangDash : Around → Place → State              -- <!-
-  Remarking : Around → State                     -- in a comment
-  RemarkDash : Around → State                    -- - in a comment
-  RemarkEnd : Around → State                     -- -- in a comment
-  Asked : Around → State                         -- <?
+  Begun : Around → Place → State  -- <
+  Banged : Around → Place → State  -- <!
+  BangDash : Around → Place → State  -- <!-
+  Remarking : Around → State  -- in a comment
+  RemarkDash : Around → State  -- - in a comment
+  RemarkEnd : Around → State  -- -- in a comment
+  Asked : Around → State  -- <?
   Targeting : Around → List ℕ → State
-  TargetEnd : Around → State                     -- ? after a target
-  Telling : Bool → Around → State                -- in an instruction, after a ? or not
-  Naming : Bearer → Place → List ℕ → State       -- the first part of a name
+  TargetEnd : Around → State  -- ? after a target
+  Telling : Bool → Around → State  -- in an instruction, after a ? or not
+  Naming : Bearer → Place → List ℕ → State  -- the first part of a name
   Coloned : Bearer → Place → List ℕ → State
   Localing : Bearer → Place → List ℕ → List ℕ → State
-  Spaced : List Open → Start → State             -- blanks in a start tag
-  Valued : List Open → Start → State             -- a value's end
-  Shutting : List Open → Start → State           -- / in a start tag
-  Equalling : List Open → Start → Name → State   -- = is wanted
-  Opening : List Open → Start → Name → State     -- a quote is wanted
+  Spaced : List Open → Start → State  -- blanks in a start tag
+  Valued : List Open → Start → State  -- a value's end
+  Shutting : List Open → Start → State  -- / in a start tag
+  Equalling : List Open → Start → Name → State  -- = is wanted
+  Opening : List Open → Start → Name → State  -- a quote is wanted
   Valuing : Bool → List Open → Start → Name → List ℕ → State
-  Ending : Open → List Open → State              -- </
-  Closing : Open → List Open → State             -- > is wanted
+  Ending : Open → List Open → State  -- </
+  Closing : Open → List Open → State  -- > is wanted
   Citation : Citing → Place → Cited → State
 
 pub data Step : Type 0 where
@@ -83,7 +109,8 @@ pub data Step : Type 0 where
 
 -- where markup ends
 abbrev pub back : Around → State
-back Before = Prolog
+back First = InProlog
+back Before = InProlog
 back (Within f fs) = Inside 0 f fs
 back (After t) = Epilog t
 
@@ -106,6 +133,7 @@ weighed true None next = next
 weighed true (Some f) next = Breaks f.0 f.1
 
 abbrev pub end_begins : Around → Step
+end_begins First = Stops
 end_begins Before = Stops
 end_begins (Within f fs) = Goes (Ending f fs)
 end_begins (After t) = Stops
@@ -130,6 +158,55 @@ abbrev pub target_goes : Around → Kind → Step
 target_goes a (Blank c) = Goes (Telling false a)
 target_goes a Question = Goes (TargetEnd a)
 target_goes a k = Stops
+
+-- <?xml and a blank begin the declaration
+abbrev pub titled : Kind → Step
+titled (Blank c) = Goes (Declaring Untold)
+titled k = Stops
+
+abbrev pub targeted : Around → List ℕ → Kind → Step
+targeted First n k = if is_reserved n then (if is_xml n then titled k else Stops) else target_goes First k
+targeted a n k = if is_reserved n then Stops else target_goes a k
+
+-- the declaration
+abbrev pub word_of : Clause → List ℕ
+word_of OfVersion = codes "version"
+word_of OfEncoding = codes "encoding"
+word_of OfStanding = codes "standalone"
+
+abbrev pub worded : Clause → List ℕ → Kind → Step → Step
+worded c [] k other = other
+worded c (d ∷ rest) k other = if is_code d k then Goes (Wording c rest) else other
+
+abbrev pub clause_begins : Stage → Kind → Step
+clause_begins Untold k = worded OfVersion (word_of OfVersion) k Stops
+clause_begins ToldVersion k = worded OfEncoding (word_of OfEncoding) k (worded OfStanding (word_of OfStanding) k Stops)
+clause_begins ToldEncoding k = worded OfStanding (word_of OfStanding) k Stops
+clause_begins ToldStanding k = Stops
+
+abbrev pub declaration_ends : Stage → Step
+declaration_ends Untold = Stops
+declaration_ends s = Goes DeclEnd
+
+abbrev pub clause_goes : Clause → Kind → Step
+clause_goes c (Blank x) = Goes (Equating c)
+clause_goes c Equals = Goes (Quoting c)
+clause_goes c k = Stops
+
+abbrev pub clause_value : Clause → Bool → State
+clause_value OfVersion d = Numbering d (codes "1.")
+clause_value OfEncoding d = Encoding d None []
+clause_value OfStanding d = Answer d
+
+abbrev pub clause_quote : Clause → Kind → Step
+clause_quote c Quote = Goes (clause_value c true)
+clause_quote c Apostrophe = Goes (clause_value c false)
+clause_quote c (Blank x) = Goes (Quoting c)
+clause_quote c k = Stops
+
+abbrev pub spelling : List ℕ → Kind → (List ℕ → State) → Step → Step
+spelling [] k s over = over
+spelling (d ∷ rest) k s over = if is_code d k then Goes (s rest) else Stops
 
 abbrev pub telling : Around → Bool → Kind → Step
 telling a asked Bad = Stops
@@ -171,6 +248,7 @@ module _ (strict : Bool) where
   begins_in fs p k q = shallow fs p (Goes (Naming (OfStart fs p) q (utf8 k)))
 
   abbrev pub element_begins : Around → Place → Kind → Place → Step
+  element_begins First p k q = begins_in [] p k q
   element_begins Before p k q = begins_in [] p k q
   element_begins (Within f fs) p k q = begins_in (f ∷ fs) p k q
   element_begins (After t) p k q = Stops
@@ -191,10 +269,35 @@ module _ (strict : Bool) where
   cite c p (Hexadecimal n) Semicolon = known c p (ByNumber n)
   cite c p (Hexadecimal n) k = if is_hexadecimal k then Goes (Citation c p (Hexadecimal (one_more 16 n k))) else Stops
 
+  -- an encoding is judged at its closing quote
+  abbrev pub encoded : Bool → Option Place → List ℕ → Kind → Place → Step
+  encoded d o v k q =
+      if is_quote d k then (if passes strict (is_encoding v) then Goes (Stated ToldEncoding) else Breaks BadEncoding (place_or o q))
+      else if is_good k then Goes (Encoding d (Some (place_or o q)) (v ++ utf8 k)) else Stops
+
   abbrev pub step : State → Kind → Place → Step
-  step Prolog Less p = Goes (Begun Before p)
-  step Prolog (Blank c) p = Goes Prolog
-  step Prolog k p = Stops
+  step Beginning Less p = Goes (Begun First p)
+  step Beginning (Blank c) p = Goes InProlog
+  step Beginning k p = Stops
+  step (Declaring s) (Blank c) p = Goes (Declaring s)
+  step (Declaring s) Question p = declaration_ends s
+  step (Declaring s) k p = clause_begins s k
+  step (Wording c rest) k p = spelling rest k (Wording c) (clause_goes c k)
+  step (Equating c) k p = clause_goes c k
+  step (Quoting c) k p = clause_quote c k
+  step (Numbering d rest) k p = spelling rest k (Numbering d) (if is_decimal k then Goes (Numbered d) else Stops)
+  step (Numbered d) k p = if is_decimal k then Goes (Numbered d) else if is_quote d k then Goes (Stated ToldVersion) else Stops
+  step (Encoding d o v) k p = encoded d o v k p
+  step (Answer d) k p = if is_code 121 k then Goes (Answering d (codes "es")) else if is_code 110 k then Goes (Answering d (codes "o")) else Stops
+  step (Answering d rest) k p = spelling rest k (Answering d) (if is_quote d k then Goes (Stated ToldStanding) else Stops)
+  step (Stated s) (Blank c) p = Goes (Declaring s)
+  step (Stated s) Question p = declaration_ends s
+  step (Stated s) k p = Stops
+  step DeclEnd Greater p = Goes InProlog
+  step DeclEnd k p = Stops
+  step InProlog Less p = Goes (Begun Before p)
+  step InProlog (Blank c) p = Goes InProlog
+  step InProlog k p = Stops
   step (Epilog t) Less p = Goes (Begun (After t) p)
   step (Epilog t) (Blank c) p = Goes (Epilog t)
   step (Epilog t) k p = Stops
@@ -222,7 +325,7 @@ module _ (strict : Bool) where
   step (RemarkEnd a) k q = Stops
   step (Asked a) (Letter c) q = Goes (Targeting a (utf8 (Letter c)))
   step (Asked a) k q = Stops
-  step (Targeting a n) k q = if is_name k then Goes (Targeting a (n ++ utf8 k)) else (if is_reserved n then Stops else target_goes a k)
+  step (Targeting a n) k q = if is_name k then Goes (Targeting a (n ++ utf8 k)) else targeted a n k
   step (TargetEnd a) Greater q = Goes (back a)
   step (TargetEnd a) k q = Stops
   step (Telling asked a) k q = telling a asked k
@@ -295,6 +398,6 @@ module _ (strict : Bool) (end : Place) where
   run s [] = finish s
   run s (t ∷ ts) = after (step strict s t.kind t.at) (reason end s (t ∷ ts)) (λ u. run u ts)
 
-  -- the characters of a document, its declaration apart
+  -- the characters of a document
   abbrev pub read : List Symbol → End
-  read ss = run Prolog ss
+  read ss = run Beginning ss

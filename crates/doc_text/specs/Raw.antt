@@ -35,6 +35,7 @@ mutual
   pub data Tree : Type 0 where
     Node : Start → Trees → Tree
     Words : List ℕ → Tree
+
   pub data Trees : Type 0 where
     Nil : Trees
     Also : Trees → Tree → Trees

@@ -17,15 +17,15 @@ pub data Kind : Type 0 where
   Equals : Kind
   Bang : Kind
   Question : Kind
-  Bracket : Kind          -- ]
+  Bracket : Kind  -- ]
   Hash : Kind
   Colon : Kind
   Dash : Kind
   Blank : ℕ → Kind
-  Letter : ℕ → Kind       -- a name may begin with it
-  Joint : ℕ → Kind        -- a digit or a point
+  Letter : ℕ → Kind  -- a name may begin with it
+  Joint : ℕ → Kind  -- a digit or a point
   Other : ℕ → Kind
-  Bad : Kind              -- no character of the encoding or of XML text
+  Bad : Kind  -- no character of the encoding or of XML text
 
 abbrev pub code_of : Kind → ℕ
 code_of Less = 60
@@ -133,3 +133,24 @@ is_hexadecimal k = false
 -- what a digit counts
 abbrev pub digit : Kind → ℕ
 digit k = if nat_le (code_of k) 57 then code_of k - 48 else if nat_le (code_of k) 70 then code_of k - 55 else code_of k - 87
+
+-- what words of a declaration are made of
+abbrev pub is_word : Kind → Bool
+is_word (Letter c) = true
+is_word (Joint c) = true
+is_word k = false
+
+-- a letter, digit or point with this code
+abbrev pub is_code : ℕ → Kind → Bool
+is_code c (Letter x) = x == c
+is_code c (Joint x) = x == c
+is_code c k = false
+
+abbrev pub is_quote : Bool → Kind → Bool
+is_quote true Quote = true
+is_quote false Apostrophe = true
+is_quote double k = false
+
+-- what may stand in these quotes beside nothing else being asked
+abbrev pub is_quoted : Bool → Kind → Bool
+is_quoted double k = if is_quote double k then false else is_good k
