@@ -6,9 +6,11 @@ use Rattle.std.specs.Prelude.{Bool, true, false, if◌then◌else◌, ◌==◌, 
 use Rattle.atl_base.specs.declared.place.Place.{Place}
 use Rattle.doc_text.specs.Symbols.{Kind, Greater, Equals, Question, Blank, Letter, Joint, Symbol, mark, code_of, quote, is_good, is_blank, is_code, is_quote, is_quoted, is_decimal, is_word}
 use Rattle.doc_text.specs.Faults.{BadEncoding}
-use Rattle.doc_text.specs.Form.{Run, No, More, spelt, joined, codes_of, plain_bytes, is_xml, is_reserved, Word, Title, title_spelt, Heading, heading_spelt, VersionInfo, version_spelt, encoding_at, first_place, answer, SDDecl, standalone_spelt, Told, Versioned, Encoded, told_spelt, Clauses, Only, Standing, clauses_spelt, Prolog, Undeclared, Declared, Following, Helped, prolog_spelt, Aside, aside_spelt}
+use Rattle.doc_text.specs.Markup.{Run, No, More, spelt, joined, plain_bytes, is_xml, is_reserved, Aside, aside_spelt}
+use Rattle.doc_text.specs.Form.{codes_of, Word, Title, title_spelt, Heading, heading_spelt, VersionInfo, version_spelt, encoding_at, first_place, answer, SDDecl, standalone_spelt, Told, Versioned, Encoded, told_spelt, Clauses, Only, Standing, clauses_spelt, Prolog, Undeclared, Declared, Following, Helped, prolog_spelt}
 use Rattle.doc_text.specs.Conditions.{is_encoding, ToldFits, ClausesFit, PrologFits, ToldFails, ClausesFail, PrologFails}
-use Rattle.doc_text.specs.Machine.{State, First, Before, Stage, Untold, ToldVersion, ToldEncoding, ToldStanding, Clause, OfVersion, OfEncoding, OfStanding, Beginning, InProlog, Targeting, Declaring, Wording, Equating, Quoting, Numbering, Numbered, Encoding, Answer, Answering, Stated, Goes, Stops, word_of, worded, clause_value, step, run}
+use Rattle.doc_text.specs.State.{State, First, Before, Stage, Untold, ToldVersion, ToldEncoding, ToldStanding, Clause, OfVersion, OfEncoding, OfStanding, Beginning, InProlog, Targeting, Declaring, Wording, Equating, Quoting, Numbering, Numbered, Encoding, Answer, Answering, Stated, Goes, Stops}
+use Rattle.doc_text.specs.Machine.{word_of, worded, clause_value, step, run}
 use Rattle.doc_text.proofs.Runs.{false-true, blanks, goes_if, goes_else, Leads, steps, gaps, optional, target_reads, aside_reads}
 use Rattle.doc_text.proofs.Outcomes.{Outcome, Passes, led, onward, decide}
 

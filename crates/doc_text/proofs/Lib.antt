@@ -1,4 +1,5 @@
 pub mod Zipper
+pub mod Before
 pub mod Stands
 pub mod SoundHead
 pub mod Sound
@@ -11,3 +12,4 @@ pub mod Meets
 pub mod Heads
 pub mod Elements
 pub mod Main
+pub mod Rows

@@ -8,9 +8,11 @@ use Rattle.doc_text.specs.Raw.{called, Tree, same_name}
 use Rattle.doc_text.specs.Faults.{Fault, BadByte, Expected, MismatchedEnd, Trailing, Unsupported}
 use Rattle.doc_text.specs.Form.{Document, document_spelt, tree_of}
 use Rattle.doc_text.specs.Conditions.{IsDocument, DocumentFits, DocumentFails}
-use Rattle.doc_text.specs.Machine.{OfStart, OfAttribute, OfEnd, State, Beginning, Epilog, Naming, Localing, Step, Goes, Stops, Breaks, step, after, reason, unwanted, declares, run, read, End, Read, Refused}
+use Rattle.doc_text.specs.State.{OfStart, OfAttribute, OfEnd, State, Beginning, Epilog, Naming, Localing, Step, Goes, Stops, Breaks}
+use Rattle.doc_text.specs.Machine.{step, after, reason, unwanted, declares, run, read, End, Read, Refused}
 use Rattle.doc_text.specs.Laws.{GoesOn, StopsAt, FailsAt, Lead0, Lead1, Lead2, Lead3, Because, Tells, Exact}
-use Rattle.doc_text.proofs.Zipper.{ZAround, ZBefore, ZWithin, ZAfter, around_spelt, Zip, ZEpilog, ZBegun, ZBanged, ZBangDash, value, before, Fits, ZFirst, ZBeginning}
+use Rattle.doc_text.proofs.Zipper.{ZAround, ZBefore, ZWithin, ZAfter, around_spelt, Zip, ZEpilog, ZBegun, ZBanged, ZBangDash, ZFirst, ZBeginning}
+use Rattle.doc_text.proofs.Before.{value, Fits, before}
 use Rattle.doc_text.proofs.Texts.{around_cut}
 use Rattle.doc_text.proofs.Stands.{Stands, StepStands}
 use Rattle.doc_text.proofs.Sound.{steps_on, ReadOf, sound}

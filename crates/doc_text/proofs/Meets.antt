@@ -4,7 +4,8 @@ use Rattle.std.specs.Prelude.{Bool, true, false, is_none}
 use Rattle.atl_base.specs.declared.place.Place.{Place}
 use Rattle.doc_text.specs.Raw.{Start}
 use Rattle.doc_text.specs.Faults.{Fault}
-use Rattle.doc_text.specs.Form.{Reference, Values, Empty, Char, Refer, Attributes, Alone, Further, Tag, start_of, Element, Full, EmptyElem, Items, Nothing, Then, Item, Sub, Text, Referred, Passed, Told, Versioned, Encoded, Clauses, Only, Standing, Prolog, Undeclared, Declared, Following, Helped, Document}
+use Rattle.doc_text.specs.Markup.{Reference, Values, Empty, Char, Refer, Attributes, Alone, Further, Tag, start_of}
+use Rattle.doc_text.specs.Form.{Element, Full, EmptyElem, Items, Nothing, Then, Item, Sub, Text, Referred, Passed, Told, Versioned, Encoded, Clauses, Only, Standing, Prolog, Undeclared, Declared, Following, Helped, Document}
 use Rattle.doc_text.specs.Conditions.{ReferenceFits, ValueFits, AttributesFit, TagFits, ElementFits, ItemsFit, ItemFits, ReferenceFails, ValueFails, AttributesFail, TagFails, ElementFails, ItemsFail, ItemFails, ToldFits, ClausesFit, PrologFits, DocumentFits, ToldFails, ClausesFail, PrologFails, DocumentFails}
 use Rattle.doc_text.proofs.Runs.{true-false}
 

@@ -5,9 +5,10 @@ use Rattle.atl_base.specs.declared.place.Place.{Place}
 use Rattle.doc_text.specs.Symbols.{Kind, Less, Greater, Slash, And, Semicolon, Quote, Apostrophe, Equals, Hash, Blank, Letter, Joint, Bad, Symbol, mark, utf8, quote, is_blank, is_name, is_value, is_decimal, is_ex, is_hexadecimal}
 use Rattle.doc_text.specs.Raw.{Name, Start, start}
 use Rattle.doc_text.specs.Faults.{Fault}
-use Rattle.doc_text.specs.Form.{Run, No, More, spelt, gap_spelt, plain_spelt, plain_bytes, QName, name_spelt, name_of, one_more, counted, Reference, EntityRef, CharRef, HexCharRef, reference_spelt, ByName, target_of, character_of, Values, Empty, Char, Refer, values_spelt, value_of, value_bytes, Attribute, attribute_spelt, Attributes, Alone, Further, attributes_spelt, pairs_of}
+use Rattle.doc_text.specs.Markup.{Run, No, More, spelt, gap_spelt, plain_spelt, plain_bytes, QName, name_spelt, name_of, one_more, counted, Reference, EntityRef, CharRef, HexCharRef, reference_spelt, ByName, target_of, character_of, Values, Empty, Char, Refer, values_spelt, value_of, value_bytes, Attribute, attribute_spelt, Attributes, Alone, Further, attributes_spelt, pairs_of}
 use Rattle.doc_text.specs.Conditions.{passes, is_known, ReferenceFits, ValueFits, AttributesFit, ReferenceFails, ValueFails, AttributesFail}
-use Rattle.doc_text.specs.Machine.{Open, OfStart, OfAttribute, Citing, InValue, Nameless, ByEntity, Hashed, Decimal, Hexed, Hexadecimal, State, Spaced, Valued, Equalling, Opening, Valuing, Citation, Goes, Breaks, cited, further, tag_goes, step, Refused, run}
+use Rattle.doc_text.specs.State.{Open, OfStart, OfAttribute, Citing, InValue, Nameless, ByEntity, Hashed, Decimal, Hexed, Hexadecimal, State, Spaced, Valued, Equalling, Opening, Valuing, Citation, Goes, Breaks}
+use Rattle.doc_text.specs.Machine.{cited, further, tag_goes, step, Refused, run}
 use Rattle.doc_text.proofs.Runs.{false-true, true-false, letters, names, decimals, hexadecimals, goes_if, goes_else, Leads, steps, breaks, gaps, optional, name_state, gathers, name_reads, over}
 
 pub failed : (strict t : Bool) → passes strict t ≡ false → (strict ≡ true) × (t ≡ false)

@@ -5,8 +5,10 @@ use Rattle.atl_base.specs.declared.place.Place.{Place}
 use Rattle.doc_text.specs.Symbols.{Kind, Less, Greater, Slash, Equals, Question, Colon, Dash, Blank, Letter, Joint, Bad, Symbol, mark, utf8, is_good, is_blank, is_start, is_name, is_undashed, is_greater, is_question, is_decimal, is_hexadecimal}
 use Rattle.doc_text.specs.Raw.{Tree}
 use Rattle.doc_text.specs.Faults.{Fault}
-use Rattle.doc_text.specs.Form.{Run, No, More, spelt, joined, Plain, plain_spelt, plain_bytes, QName, Unprefixed, Prefixed, name_spelt, name_of, Remarks, Silent, Undashed, Dashed, remarks_spelt, ends_asking, IsUnclosed, is_reserved, Aside, Comment, PI, PISaying, aside_spelt, Miscs, Bare, Blanked, Aided, miscs_spelt}
-use Rattle.doc_text.specs.Machine.{Around, Before, After, Bearer, State, Epilog, Begun, Asked, Targeting, TargetEnd, Telling, Naming, Coloned, Localing, Remarking, RemarkDash, Step, Goes, Breaks, back, telling, named, step, End, Refused, after, reason, run, First, targeted, target_goes, Within}
+use Rattle.doc_text.specs.Markup.{Run, No, More, spelt, joined, Plain, plain_spelt, plain_bytes, QName, Unprefixed, Prefixed, name_spelt, name_of, Remarks, Silent, Undashed, Dashed, remarks_spelt, ends_asking, IsUnclosed, is_reserved, Aside, Comment, PI, PISaying, aside_spelt}
+use Rattle.doc_text.specs.Form.{Miscs, Bare, Blanked, Aided, miscs_spelt}
+use Rattle.doc_text.specs.State.{Around, Before, After, Bearer, State, Epilog, Begun, Asked, Targeting, TargetEnd, Telling, Naming, Coloned, Localing, Remarking, RemarkDash, Step, Goes, Breaks, First, Within}
+use Rattle.doc_text.specs.Machine.{back, telling, named, step, End, Refused, after, reason, run, targeted, target_goes}
 
 abbrev IsNot : Bool → Type 0
 IsNot true = ⊥

@@ -4,10 +4,12 @@ use Rattle.std.specs.Prelude.{Bool, true, false, if◌then◌else◌, is_none, O
 use Rattle.atl_base.specs.declared.place.Place.{Place}
 use Rattle.doc_text.specs.Symbols.{Blank, Letter, Symbol, mark, is_blank, is_name}
 use Rattle.doc_text.specs.Faults.{Fault}
-use Rattle.doc_text.specs.Form.{Run, No, More, Plain, Gap, Tag}
+use Rattle.doc_text.specs.Markup.{Run, No, More, Plain, Gap, Tag}
 use Rattle.doc_text.specs.Conditions.{passes}
-use Rattle.doc_text.specs.Machine.{State, Step, Goes, Stops, Breaks, weighed, run}
-use Rattle.doc_text.proofs.Zipper.{Part, Zip, value, before, Fits}
+use Rattle.doc_text.specs.State.{State, Step, Goes, Stops, Breaks}
+use Rattle.doc_text.specs.Machine.{weighed, run}
+use Rattle.doc_text.proofs.Zipper.{Part, Zip}
+use Rattle.doc_text.proofs.Before.{value, Fits, before}
 
 pub chooses : (P : Step → Type 0) (t : Bool) (x y : Step) → (t ≡ true → P x) → (t ≡ false → P y) → P (if t then x else y)
 chooses P true x y f g = f refl

@@ -2,7 +2,8 @@
 use Rattle.std.proofs.Common.{◌≡◌, List, ◌∷◌, ◌++◌, refl, ap, ◌∙◌}
 use Rattle.std.specs.Prelude.{Bool, ℕ}
 use Rattle.doc_text.specs.Symbols.{Kind, Less, Greater, Slash, And, Semicolon, Equals, Question, Bang, Hash, Colon, Dash, Symbol, mark, quote}
-use Rattle.doc_text.specs.Form.{Run, No, More, spelt, Plain, plain_spelt, QName, Unprefixed, Prefixed, name_spelt, Reference, EntityRef, CharRef, HexCharRef, reference_spelt, Values, Empty, Char, Refer, values_spelt, Attribute, attribute_spelt, Attributes, Alone, Further, attributes_spelt, Tag, tag_spelt, ETag, end_spelt, Remarks, Silent, Undashed, Dashed, remarks_spelt, Aside, Comment, PI, PISaying, aside_spelt, Miscs, Bare, Blanked, Aided, miscs_spelt, Element, Full, EmptyElem, element_spelt, Items, Nothing, Then, items_spelt, Item, Sub, Text, Referred, Passed, item_spelt, Heading, heading_spelt, Title, title_spelt, VersionInfo, version_spelt, EncodingDecl, encoding_spelt, SDDecl, standalone_spelt, Told, Versioned, Encoded, told_spelt, Clauses, Only, Standing, clauses_spelt, Prolog, Undeclared, Declared, Following, Helped, prolog_spelt}
+use Rattle.doc_text.specs.Markup.{Run, No, More, spelt, Plain, plain_spelt, QName, Unprefixed, Prefixed, name_spelt, Reference, EntityRef, CharRef, HexCharRef, reference_spelt, Values, Empty, Char, Refer, values_spelt, Attribute, attribute_spelt, Attributes, Alone, Further, attributes_spelt, Tag, tag_spelt, ETag, end_spelt, Remarks, Silent, Undashed, Dashed, remarks_spelt, Aside, Comment, PI, PISaying, aside_spelt}
+use Rattle.doc_text.specs.Form.{Miscs, Bare, Blanked, Aided, miscs_spelt, Element, Full, EmptyElem, element_spelt, Items, Nothing, Then, items_spelt, Item, Sub, Text, Referred, Passed, item_spelt, Heading, heading_spelt, Title, title_spelt, VersionInfo, version_spelt, EncodingDecl, encoding_spelt, SDDecl, standalone_spelt, Told, Versioned, Encoded, told_spelt, Clauses, Only, Standing, clauses_spelt, Prolog, Undeclared, Declared, Following, Helped, prolog_spelt}
 use Rattle.doc_text.proofs.Zipper.{Opens, Bottom, Opened, opens_spelt, ZAround, ZBefore, ZWithin, ZAfter, around_spelt, ZFirst}
 
 spelt_cut : {of : Kind → Bool} (x : Run of) (r q : List Symbol) → spelt x (r ++ q) ≡ spelt x r ++ q

@@ -6,7 +6,8 @@ use Rattle.doc_text.specs.Raw.{Start, same_name, Tree}
 use Rattle.doc_text.specs.Faults.{Fault, BadEncoding, MismatchedEnd, Entity, TooDeep, BadByte}
 use Rattle.doc_text.specs.Namespaces.{tag_fault}
 use Rattle.doc_text.specs.Symbols.{Symbol}
-use Rattle.doc_text.specs.Form.{Reference, reference_at, Target, ByName, ByNumber, target_of, Values, Empty, Char, Refer, Attributes, Alone, Further, Tag, start_of, name_of, Element, Full, EmptyElem, Items, Nothing, Then, Item, Sub, Text, Referred, Passed, Prolog, Undeclared, Declared, Following, Helped, Told, Versioned, Encoded, Clauses, Only, Standing, EncodingDecl, encoding_at, joined, Document, document_spelt, brackets, IsApart, tree_of}
+use Rattle.doc_text.specs.Markup.{Reference, reference_at, Target, ByName, ByNumber, target_of, Values, Empty, Char, Refer, Attributes, Alone, Further, Tag, start_of, name_of, joined}
+use Rattle.doc_text.specs.Form.{Element, Full, EmptyElem, Items, Nothing, Then, Item, Sub, Text, Referred, Passed, Prolog, Undeclared, Declared, Following, Helped, Told, Versioned, Encoded, Clauses, Only, Standing, EncodingDecl, encoding_at, Document, document_spelt, brackets, IsApart, tree_of}
 
 -- a condition counts where it is asked for
 abbrev pub passes : Bool → Bool → Bool

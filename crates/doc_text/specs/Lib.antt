@@ -2,7 +2,11 @@ pub mod Symbols
 pub mod Raw
 pub mod Faults
 pub mod Namespaces
+pub mod Markup
 pub mod Form
 pub mod Conditions
+pub mod State
 pub mod Machine
 pub mod Laws
+pub mod Characters
+pub mod Reading
