@@ -13,3 +13,4 @@ pub mod Heads
 pub mod Elements
 pub mod Main
 pub mod Rows
+pub mod Bytes
