@@ -4,28 +4,10 @@
 use Rattle.std.specs.Prelude.{ℕ, ◌-◌, ◌||◌, ◌==◌, List, Bool, true, false, nat_le, nat_lt, if◌then◌else◌, encode_utf8}
 use Rattle.std.specs.Int.{is_in_range}
 use Rattle.atl_base.specs.XmlText.{is_xml_character}
+pub use Rattle.doc_text.specs.declared.symbol.Kind.{Kind}
+pub use Rattle.doc_text.specs.declared.symbol.Kind.TheVariants.{Less, Greater, Slash, And, Semicolon, Quote, Apostrophe, Equals, Bang, Question, Bracket, Hash, Colon, Dash, Blank, Letter, Joint, Other, Bad}
+pub use Rattle.doc_text.specs.declared.symbol.Symbol.{Symbol}
 use Rattle.atl_base.specs.declared.place.Place.{Place}
-
-pub data Kind : Type 0 where
-  Less : Kind
-  Greater : Kind
-  Slash : Kind
-  And : Kind
-  Semicolon : Kind
-  Quote : Kind
-  Apostrophe : Kind
-  Equals : Kind
-  Bang : Kind
-  Question : Kind
-  Bracket : Kind  -- ]
-  Hash : Kind
-  Colon : Kind
-  Dash : Kind
-  Blank : ℕ → Kind
-  Letter : ℕ → Kind  -- a name may begin with it
-  Joint : ℕ → Kind  -- a digit or a point
-  Other : ℕ → Kind
-  Bad : Kind  -- no character of the encoding or of XML text
 
 abbrev pub code_of : Kind → ℕ
 code_of Less = 60
@@ -56,10 +38,6 @@ mark_of c = if c == 60 then Less else if c == 62 then Greater else if c == 47 th
 
 abbrev pub kind_of : ℕ → Kind
 kind_of c = if is_xml_character c then (if is_letter c then Letter c else if is_in_range 48 57 c || c == 46 then Joint c else if c == 9 || c == 10 || c == 13 || c == 32 then Blank c else mark_of c) else Bad
-
-pub record Symbol : Type 0 where
-  pub kind : Kind
-  pub at : Place
 
 abbrev pub mark : Place → Kind → Symbol
 mark p k = record { kind = k; at = p }
