@@ -1,6 +1,7 @@
 //! Documents: the trees of the XML profile that models, metamodels and code files are written in.
 #![tactic(auto)]
 
+mod characters;
 pub mod laws;
 pub mod symbol;
 pub mod tree;
