@@ -129,3 +129,7 @@ symbols bytes = placed false 1 1 (characters bytes)
 
 abbrev pub end_of : List ℕ → Place
 end_of bytes = end_place 1 1 (characters bytes)
+
+-- what is still to come, after these characters: one for the byte that none has
+abbrev pub tail : Bool → List ℕ
+tail whole = if whole then [] else no_character ∷ []

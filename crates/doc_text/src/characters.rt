@@ -3,6 +3,7 @@ ghost use Rattle.std.specs.Prelude.{◌≡◌, ◌≤◌, ◌<◌, ◌+◌, ◌+
 ghost use Rattle.std.specs.Str.{chars, IsValidUpTo};
 ghost use Rattle.atl_base.specs.XmlText.{is_xml_character as is_xml_character_of};
 ghost use Rattle.doc_text.specs.Symbols.{kind_of as kind_of_code};
+ghost use Rattle.doc_text.specs.Characters.{placed, end_place};
 
 use crate::symbol::{Kind, Symbol};
 use atl_base::place::Place;
@@ -40,5 +41,56 @@ fn kind_of(c: char) -> Kind
         ':' => Kind::Colon,
         '-' => Kind::Dash,
         _ => Kind::Other(c),
+    }
+}
+
+/// The characters of a document with their places, and the place after the last.
+#[derive(Debug, Drop)]
+pub struct Characters {
+    pub symbols: Vec<Symbol>,
+    pub end: Place,
+}
+
+// What has been placed, and where the next character stands.
+#[derive(Drop)]
+struct Pen {
+    symbols: Vec<Symbol>,
+    returned: bool,
+    line: u32,
+    column: u32,
+}
+
+impl Pen {
+    // Places one character more.
+    fn put(&mut self, c: char) -> Result<(), AllocError>
+        requires line { self.now.line < 4294967295 }
+        requires column { self.now.column < 4294967295 }
+        ensures told { OnOk result ((rest : List ℕ) → self.new.symbols.items ++ placed self.new.returned self.new.line self.new.column rest ≡ self.old.symbols.items ++ placed self.old.returned self.old.line self.old.column (c ∷ rest)) }
+        ensures end { OnOk result ((rest : List ℕ) → end_place self.new.line self.new.column rest ≡ end_place self.old.line self.old.column (c ∷ rest)) }
+        ensures line { OnOk result (self.new.line ≤ self.old.line + 1) }
+        ensures column { OnOk result (self.new.column ≤ self.old.column + 1) }
+    {
+        if c == '\n' && self.returned {
+            self.returned = false;
+            self.line += 1;
+            self.column = 1;
+            return Ok(());
+        }
+        let kind = if c == '\r' { Kind::Blank('\n') } else { kind_of(c) };
+        self.symbols.push(Symbol {
+            kind,
+            at: Place {
+                line: self.line,
+                column: self.column,
+            },
+        })?;
+        if c == '\n' {
+            self.line += 1;
+            self.column = 1;
+            return Ok(());
+        }
+        self.column += 1;
+        self.returned = c == '\r';
+        Ok(())
     }
 }
