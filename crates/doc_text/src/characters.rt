@@ -1,9 +1,9 @@
 // From bytes to characters with their places.
-ghost use Rattle.std.specs.Prelude.{◌≡◌, ◌≤◌, ◌<◌, ◌+◌, ◌++◌, ◌∷◌, ℕ, List, length, take, IfOk, OnOk, ◌⊎◌};
+ghost use Rattle.std.specs.Prelude.{◌≡◌, ◌≤◌, ◌<◌, ◌+◌, ◌++◌, ◌∷◌, ℕ, List, false, length, take, IfOk, OnOk, ◌⊎◌};
 ghost use Rattle.std.specs.Str.{chars, IsValidUpTo};
 ghost use Rattle.atl_base.specs.XmlText.{is_xml_character as is_xml_character_of};
 ghost use Rattle.doc_text.specs.Symbols.{kind_of as kind_of_code};
-ghost use Rattle.doc_text.specs.Characters.{placed, end_place};
+ghost use Rattle.doc_text.specs.Characters.{placed, end_place, tail};
 
 use crate::symbol::{Kind, Symbol};
 use atl_base::place::Place;
@@ -76,7 +76,11 @@ impl Pen {
             self.column = 1;
             return Ok(());
         }
-        let kind = if c == '\r' { Kind::Blank('\n') } else { kind_of(c) };
+        let kind = if c == '\r' {
+            Kind::Blank('\n')
+        } else {
+            kind_of(c)
+        };
         self.symbols.push(Symbol {
             kind,
             at: Place {
@@ -93,4 +97,42 @@ impl Pen {
         self.returned = c == '\r';
         Ok(())
     }
+}
+
+// Places all characters, and one for a byte that no character has.
+fn place_all(alloc: Global, characters: &[char], whole: bool) -> Result<Characters, AllocError>
+    requires { length characters.now < 4294967294 }
+    ensures symbols { IfOk result (λ r. r.symbols.items ≡ placed false 1 1 (characters.now ++ tail whole)) }
+    ensures end { IfOk result (λ r. r.end ≡ end_place 1 1 (characters.now ++ tail whole)) }
+{
+    let mut pen = Pen {
+        symbols: Vec::new(alloc),
+        returned: false,
+        line: 1,
+        column: 1,
+    };
+    for c in characters {
+        pen.put(*c)?;
+    }
+    let at = Place {
+        line: pen.line,
+        column: pen.column,
+    };
+    if whole {
+        return Ok(Characters {
+            symbols: pen.symbols,
+            end: at,
+        });
+    }
+    pen.symbols.push(Symbol {
+        kind: Kind::Bad,
+        at,
+    })?;
+    Ok(Characters {
+        symbols: pen.symbols,
+        end: Place {
+            line: pen.line,
+            column: pen.column + 1,
+        },
+    })
 }
