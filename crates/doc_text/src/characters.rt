@@ -3,7 +3,7 @@ ghost use Rattle.std.specs.Prelude.{◌≡◌, ◌≤◌, ◌<◌, ◌+◌, ◌+
 ghost use Rattle.std.specs.Str.{chars, IsValidUpTo};
 ghost use Rattle.atl_base.specs.XmlText.{is_xml_character as is_xml_character_of};
 ghost use Rattle.doc_text.specs.Symbols.{kind_of as kind_of_code};
-ghost use Rattle.doc_text.specs.Characters.{placed, end_place, tail};
+ghost use Rattle.doc_text.specs.Characters.{placed, end_place, tail, decoded, Utf8, ascii};
 
 use crate::symbol::{Kind, Symbol};
 use atl_base::place::Place;
@@ -134,5 +134,78 @@ fn place_all(alloc: Global, characters: &[char], whole: bool) -> Result<Characte
             line: pen.line,
             column: pen.column + 1,
         },
+    })
+}
+
+// Characters, and whether no byte is left that no character has.
+#[derive(Drop)]
+struct Decoded {
+    characters: Vec<char>,
+    whole: bool,
+}
+
+// The longest front that is UTF-8.
+fn utf8_front(bytes: &[u8]) -> &str
+    ensures { ((result.now ≡ bytes.now) ⊎ (IsValidUpTo bytes.now (length result.now) × (result.now ≡ take (length result.now) bytes.now))) }
+{
+    match str::from_utf8(bytes) {
+        Ok(text) => text,
+        Err(fault) => match str::from_utf8(&bytes[..fault.valid_up_to()]) {
+            Ok(text) => text,
+            Err(_) => unreachable!(),
+        },
+    }
+}
+
+fn characters_of(alloc: Global, text: &str) -> Result<Vec<char>, AllocError>
+    ensures { IfOk result (λ v. v.items ≡ chars text.now) }
+{
+    let mut characters = Vec::new(alloc);
+    for c in text.chars() {
+        characters.push(c)?;
+    }
+    Ok(characters)
+}
+
+fn decode_utf8(alloc: Global, bytes: &[u8]) -> Result<Decoded, AllocError>
+    ensures { IfOk result (λ d. d.characters.items ++ tail d.whole ≡ decoded Utf8 bytes.now) }
+{
+    let front = utf8_front(bytes);
+    let characters = characters_of(alloc, front)?;
+    Ok(Decoded {
+        characters,
+        whole: front.len() == bytes.len(),
+    })
+}
+
+fn decode_ascii(alloc: Global, bytes: &[u8]) -> Result<Decoded, AllocError>
+    ensures { IfOk result (λ d. d.characters.items ++ tail d.whole ≡ ascii bytes.now) }
+{
+    let mut characters = Vec::new(alloc);
+    for b in bytes {
+        if *b >= 128 {
+            return Ok(Decoded {
+                characters,
+                whole: false,
+            });
+        }
+        characters.push(char::from(*b))?;
+    }
+    Ok(Decoded {
+        characters,
+        whole: true,
+    })
+}
+
+fn decode_latin(alloc: Global, bytes: &[u8]) -> Result<Decoded, AllocError>
+    ensures { IfOk result (λ d. d.characters.items ++ tail d.whole ≡ bytes.now) }
+{
+    let mut characters = Vec::new(alloc);
+    for b in bytes {
+        characters.push(char::from(*b))?;
+    }
+    Ok(Decoded {
+        characters,
+        whole: true,
     })
 }
