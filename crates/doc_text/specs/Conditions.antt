@@ -1,5 +1,6 @@
 -- What a document keeps apart from its form, and where a condition fails in what is written.
 use Rattle.std.specs.Prelude.{ℕ, ◌≡◌, ◌⊎◌, ◌||◌, List, [], ◌∷◌, length, Bool, true, false, if◌then◌else◌, nat_lt, bytes_eq, codes, is_none, Some, ◌+◌, ◌&&◌, map, nat_le}
+use Rattle.std.specs.Str.{str_eq_ignore_ascii_case}
 use Rattle.atl_base.specs.XmlText.{is_xml_character}
 use Rattle.atl_base.specs.declared.place.Place.{Place}
 use Rattle.doc_text.specs.Raw.{Start, same_name, Tree}
@@ -66,14 +67,8 @@ module _ (strict : Bool) where
     ItemFits outer (Passed a) = Unit {0}
 
 -- the encodings that are read, their letters in any case
-abbrev pub lower : ℕ → ℕ
-lower c = if nat_le 65 c && nat_le c 90 then c + 32 else c
-
-abbrev pub is_named : List ℕ → Bool
-is_named name = bytes_eq name (codes "utf-8") || bytes_eq name (codes "ascii") || bytes_eq name (codes "us-ascii") || bytes_eq name (codes "iso-8859-1")
-
 abbrev pub is_encoding : List ℕ → Bool
-is_encoding bytes = is_named (map lower bytes)
+is_encoding name = str_eq_ignore_ascii_case name (codes "utf-8") || str_eq_ignore_ascii_case name (codes "ascii") || str_eq_ignore_ascii_case name (codes "us-ascii") || str_eq_ignore_ascii_case name (codes "iso-8859-1")
 
 module _ (strict : Bool) where
   abbrev pub EncodingFits : EncodingDecl → Type 0

@@ -8,5 +8,6 @@ pub mod Conditions
 pub mod State
 pub mod Machine
 pub mod Laws
+pub mod Encodings
 pub mod Characters
 pub mod Reading

@@ -3,7 +3,8 @@ ghost use Rattle.std.specs.Prelude.{◌≡◌, ◌≤◌, ◌<◌, ◌+◌, ◌+
 ghost use Rattle.std.specs.Str.{chars, IsValidUpTo};
 ghost use Rattle.atl_base.specs.XmlText.{is_xml_character as is_xml_character_of};
 ghost use Rattle.doc_text.specs.Symbols.{kind_of as kind_of_code};
-ghost use Rattle.doc_text.specs.Characters.{placed, end_place, tail, decoded, Utf8, ascii};
+ghost use Rattle.doc_text.specs.Characters.{placed, end_place, tail, decoded, ascii};
+ghost use Rattle.doc_text.specs.Encodings.{Utf8};
 
 use crate::symbol::{Kind, Symbol};
 use atl_base::place::Place;

@@ -2,6 +2,7 @@
 #![tactic(auto)]
 
 mod characters;
+mod encoding;
 pub mod laws;
 pub mod symbol;
 pub mod tree;

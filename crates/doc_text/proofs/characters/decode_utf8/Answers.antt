@@ -1,4 +1,4 @@
-use Rattle.std.proofs.Common.{◌≡◌, ◌<◌, ℕ, List, ◌++◌, length, take, ◌⊎◌, inl, inr, nat_eq, refl, sym, ap, ◌∙◌, subst}
+use Rattle.std.proofs.Common.{◌≡◌, ℕ, List, ◌++◌, length, take, ◌⊎◌, inl, inr, nat_eq, sym, ap, ◌∙◌, subst}
 use Rattle.std.proofs.lemmas.Str.{utf8_valid_len-IsUtf8, utf8_valid_len-IsValidUpTo}
 use Rattle.std.proofs.Math.Seq.{take-length}
 use Rattle.std.specs.Str.{chars, IsValidUpTo, IsUtf8}

@@ -1,4 +1,4 @@
-use Rattle.std.proofs.Common.{◌≡◌, ◌+◌, ◌≤◌, ℕ, List, ◌++◌, length, drop}
+use Rattle.std.proofs.Common.{◌≡◌, ◌+◌, ◌≤◌, ◌++◌, drop}
 use Rattle.std.specs.Prelude.{false}
 use Rattle.doc_text.specs.Characters.{placed, end_place, tail}
 use Rattle.doc_text.proofs.characters.place_all.Given as goal
