@@ -14,3 +14,4 @@ pub mod Elements
 pub mod Main
 pub mod Rows
 pub mod Bytes
+pub mod Lengths

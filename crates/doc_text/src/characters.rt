@@ -4,8 +4,10 @@ ghost use Rattle.std.specs.Str.{chars, IsValidUpTo};
 ghost use Rattle.atl_base.specs.XmlText.{is_xml_character as is_xml_character_of};
 ghost use Rattle.doc_text.specs.Symbols.{kind_of as kind_of_code};
 ghost use Rattle.doc_text.specs.Characters.{placed, end_place, tail, decoded, ascii};
-ghost use Rattle.doc_text.specs.Encodings.{Utf8};
+ghost use Rattle.doc_text.specs.Encodings.{Utf8, encoding_of as encoding_of_bytes};
+ghost use Rattle.doc_text.specs.Characters.{without_mark as without_mark_of, is_wide as is_wide_of, symbols as symbols_of, end_of};
 
+use crate::encoding::{Encoding, encoding_of};
 use crate::symbol::{Kind, Symbol};
 use atl_base::place::Place;
 use std::alloc::{AllocError, Global};
@@ -102,7 +104,7 @@ impl Pen {
 
 // Places all characters, and one for a byte that no character has.
 fn place_all(alloc: Global, characters: &[char], whole: bool) -> Result<Characters, AllocError>
-    requires { length characters.now < 4294967294 }
+    requires { length characters.now + length (tail whole) ≤ 4294967294 }
     ensures symbols { IfOk result (λ r. r.symbols.items ≡ placed false 1 1 (characters.now ++ tail whole)) }
     ensures end { IfOk result (λ r. r.end ≡ end_place 1 1 (characters.now ++ tail whole)) }
 {
@@ -209,4 +211,42 @@ fn decode_latin(alloc: Global, bytes: &[u8]) -> Result<Decoded, AllocError>
         characters,
         whole: true,
     })
+}
+
+fn decode(alloc: Global, bytes: &[u8]) -> Result<Decoded, AllocError>
+    ensures { IfOk result (λ d. d.characters.items ++ tail d.whole ≡ decoded (encoding_of_bytes bytes.now) bytes.now) }
+{
+    match encoding_of(bytes) {
+        Encoding::Utf8 => decode_utf8(alloc, bytes),
+        Encoding::Ascii => decode_ascii(alloc, bytes),
+        Encoding::Latin => decode_latin(alloc, bytes),
+    }
+}
+
+// What follows a mark of UTF-8, if there is one.
+fn without_mark(bytes: &[u8]) -> &[u8]
+    ensures { result.now ≡ without_mark_of bytes.now }
+{
+    match bytes {
+        [239, 187, 191, rest @ ..] => rest,
+        _ => bytes,
+    }
+}
+
+/// A mark of UTF-16 begins these bytes.
+pub fn is_wide(bytes: &[u8]) -> bool
+    ensures { result ≡ is_wide_of bytes.now }
+{
+    matches!(bytes, [254, 255, ..] | [255, 254, ..])
+}
+
+/// The characters of a document's bytes: their mark is skipped, they are read in the declared encoding up to the first
+/// byte that no character has, and each end of a line is one line feed.
+pub fn read_characters(alloc: Global, bytes: &[u8]) -> Result<Characters, AllocError>
+    requires { length bytes.now ≤ 4294967294 }
+    ensures symbols { IfOk result (λ r. r.symbols.items ≡ symbols_of bytes.now) }
+    ensures end { IfOk result (λ r. r.end ≡ end_of bytes.now) }
+{
+    let decoded = decode(alloc, without_mark(bytes))?;
+    place_all(alloc, &decoded.characters, decoded.whole)
 }

@@ -1,8 +1,8 @@
 //! Documents: the trees of the XML profile that models, metamodels and code files are written in.
 #![tactic(auto)]
 
-mod characters;
-mod encoding;
+pub mod characters;
+pub mod encoding;
 pub mod laws;
 pub mod symbol;
 pub mod tree;
