@@ -15,3 +15,4 @@ pub mod Main
 pub mod Rows
 pub mod Bytes
 pub mod Lengths
+pub mod Paths
