@@ -1,10 +1,10 @@
 -- Reading bytes is exact, since reading their characters is.
 use Rattle.doc_text.specs.Markup.{start_of}
-use Rattle.std.proofs.Common.{◌≡◌, ℕ, List, refl, sym, ap, ◌∙◌, subst, inl, inr}
+use Rattle.std.proofs.Common.{◌≡◌, ℕ, List, refl, sym, ◌∙◌, subst, inl, inr}
 use Rattle.std.specs.Prelude.{Bool, true, false, if◌then◌else◌, ◌⊎◌}
 use Rattle.atl_base.specs.declared.place.Place.{Place}
 use Rattle.doc_text.specs.Symbols.{Symbol}
-use Rattle.doc_text.specs.Raw.{Tree, Node, Words, Nil}
+use Rattle.doc_text.specs.Raw.{Tree, Nil}
 use Rattle.doc_text.specs.Faults.{Fault, BadEncoding}
 use Rattle.doc_text.specs.Form.{Element as Written, Full, EmptyElem, tree_of, trees_of}
 use Rattle.doc_text.specs.Conditions.{IsDocument}

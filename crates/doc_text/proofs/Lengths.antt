@@ -1,5 +1,5 @@
 -- There are no more characters than bytes.
-use Rattle.std.proofs.Common.{◌≡◌, ◌≤◌, ◌<◌, ◌+◌, ◌-◌, ◌*◌, ℕ, zero, suc, List, [], ◌∷◌, ◌++◌, length, take, refl, sym, ap, ◌∙◌, subst, arith}
+use Rattle.std.proofs.Common.{◌≡◌, ◌≤◌, ◌+◌, ◌-◌, ◌*◌, ℕ, zero, suc, List, [], ◌∷◌, ◌++◌, length, take, refl, sym, subst, arith}
 use Rattle.std.proofs.lemmas.List.{length-append, length-take-le}
 use Rattle.std.proofs.lemmas.Str.{utf8_valid_len_le}
 use Rattle.std.proofs.lemmas.Bool.{eqb-false}
@@ -7,7 +7,7 @@ use Rattle.std.specs.Prelude.{Bool, true, false, if◌then◌else◌, ◌==◌, 
 use Rattle.std.specs.Str.{chars, chars_after, continuation_len, lead_bits}
 use Rattle.std.specs.Str.Lossy.{utf8_valid_len}
 use Rattle.doc_text.specs.Encodings.{Encoding, Utf8, Ascii, Latin}
-use Rattle.doc_text.specs.Characters.{ascii, tail, decoded, no_character, without_mark}
+use Rattle.doc_text.specs.Characters.{ascii, decoded, no_character, without_mark}
 
 one_longer : (c : ℕ) (xs : List ℕ) (m : ℕ) → length xs ≤ m + 1 → length (c ∷ xs) ≤ suc m + 1
 one_longer c xs m h = grind (arith, h)

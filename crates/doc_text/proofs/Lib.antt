@@ -11,6 +11,8 @@ pub mod Agrees
 pub mod Meets
 pub mod Heads
 pub mod Elements
+pub mod Accepts
+pub mod Reasons
 pub mod Main
 pub mod Rows
 pub mod Bytes

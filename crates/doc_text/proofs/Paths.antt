@@ -1,14 +1,13 @@
 -- The states that the form goes through, what ends a document, and what may come after <!.
-use Rattle.std.proofs.Common.{◌≡◌, ℕ, List, [], ◌∷◌, ◌++◌, refl, sym, ap, ◌∙◌, subst, append_assoc}
-use Rattle.std.proofs.lemmas.List.{append-nil}
+use Rattle.std.proofs.Common.{◌≡◌, ℕ, List, [], ◌∷◌, ◌++◌, refl, sym, ap, ◌∙◌, subst}
 use Rattle.std.specs.Prelude.{Bool, true, false, if◌then◌else◌, ◌&&◌, ◌==◌, codes, Option, Some}
 use Rattle.atl_base.specs.declared.place.Place.{Place}
-use Rattle.doc_text.specs.Symbols.{Kind, Less, Greater, Slash, And, Semicolon, Quote, Apostrophe, Equals, Bang, Question, Bracket, Hash, Colon, Dash, Blank, Letter, Joint, Other, Bad, Symbol, mark, code_of, utf8}
+use Rattle.doc_text.specs.Symbols.{Kind, Less, Greater, Quote, Apostrophe, Bang, Question, Dash, Bad, Symbol, mark, code_of, utf8}
 use Rattle.doc_text.specs.Raw.{Tree, called, same_name}
-use Rattle.doc_text.specs.Faults.{Fault, Expected, MismatchedEnd, Trailing}
+use Rattle.doc_text.specs.Faults.{Expected, MismatchedEnd}
 use Rattle.doc_text.specs.Markup.{is_reserved, is_xml}
 use Rattle.doc_text.specs.Form.{place_or}
-use Rattle.doc_text.specs.State.{Declaring, Untold, ToldVersion, ToldEncoding, ToldStanding, Around, First, Before, Within, After, Bearer, OfStart, OfAttribute, OfEnd, Cited, Nameless, ByEntity, Hashed, Decimal, Hexed, Hexadecimal, State, Beginning, Wording, Numbering, Numbered, Encoding, Answering, InProlog, Epilog, Begun, Banged, Remarking, Targeting, Telling, Naming, Localing, Citation, Step, Goes, Stops, Breaks}
+use Rattle.doc_text.specs.State.{Declaring, Untold, ToldVersion, ToldEncoding, ToldStanding, Around, First, Before, Within, After, OfStart, OfAttribute, OfEnd, Nameless, ByEntity, Hashed, Decimal, Hexed, Hexadecimal, State, Wording, Numbering, Numbered, Encoding, Answering, Epilog, Banged, Remarking, Targeting, Telling, Naming, Localing, Citation, Step, Goes, Stops, Breaks}
 use Rattle.doc_text.specs.Machine.{step, after, reason, begins, declares, finish, run, End, Read, Refused}
 use Rattle.doc_text.proofs.Runs.{false-true, true-false}
 use Rattle.doc_text.proofs.Completes.{completes}

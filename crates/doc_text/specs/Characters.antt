@@ -1,6 +1,6 @@
 -- From bytes to characters with their places (XML 1.0, sections 2.11 and 4.3.3): the byte order mark is skipped, the
 -- encoding is the declared one, and each end of a line is one line feed.
-use Rattle.std.specs.Prelude.{ℕ, ◌+◌, ◌==◌, ◌||◌, ◌&&◌, List, [], ◌∷◌, ◌++◌, map, length, take, Bool, true, false, if◌then◌else◌, nat_lt, nat_le, codes, bytes_eq, Option, Some, None}
+use Rattle.std.specs.Prelude.{ℕ, ◌+◌, ◌==◌, ◌||◌, ◌&&◌, List, [], ◌∷◌, ◌++◌, length, take, Bool, true, false, if◌then◌else◌, nat_lt}
 use Rattle.std.specs.Str.{chars}
 use Rattle.std.specs.Str.Lossy.{utf8_valid_len}
 use Rattle.atl_base.specs.declared.place.Place.{Place}

@@ -1,5 +1,5 @@
 -- What a document keeps apart from its form, and where a condition fails in what is written.
-use Rattle.std.specs.Prelude.{ℕ, ◌≡◌, ◌⊎◌, ◌||◌, List, [], ◌∷◌, length, Bool, true, false, if◌then◌else◌, nat_lt, bytes_eq, codes, is_none, Some, ◌+◌, ◌&&◌, map, nat_le}
+use Rattle.std.specs.Prelude.{ℕ, ◌≡◌, ◌⊎◌, ◌||◌, List, [], ◌∷◌, length, Bool, true, false, if◌then◌else◌, nat_lt, bytes_eq, codes, is_none, Some}
 use Rattle.std.specs.Str.{str_eq_ignore_ascii_case}
 use Rattle.atl_base.specs.XmlText.{is_xml_character}
 use Rattle.atl_base.specs.declared.place.Place.{Place}

@@ -1,6 +1,6 @@
 -- The encoding that a document's declaration names (XML 1.0, sections 2.8 and 4.3.3). The productions of XMLDecl are
 -- followed over the bytes, each to what stands after it.
-use Rattle.std.specs.Prelude.{ℕ, ◌+◌, ◌==◌, ◌||◌, ◌&&◌, List, [], ◌∷◌, ◌++◌, map, Bool, true, false, if◌then◌else◌, nat_lt, nat_le, codes, Option, Some, None}
+use Rattle.std.specs.Prelude.{ℕ, ◌==◌, ◌||◌, ◌&&◌, List, [], ◌∷◌, ◌++◌, Bool, if◌then◌else◌, nat_le, codes, Option, Some, None}
 use Rattle.std.specs.Str.{str_eq_ignore_ascii_case}
 pub use Rattle.doc_text.specs.declared.encoding.Encoding.{Encoding}
 pub use Rattle.doc_text.specs.declared.encoding.Encoding.TheVariants.{Utf8, Ascii, Latin}

@@ -31,23 +31,55 @@ abbrev pub IsGood : List Symbol → Type 0
 IsGood [] = Unit {0}
 IsGood (s ∷ rest) = is_good s.kind ≡ true
 
+abbrev pub IsThere : List Symbol → Type 0
+IsThere [] = ⊥
+IsThere (s ∷ rest) = is_good s.kind ≡ true
+
 abbrev pub IsBad : List Symbol → Type 0
 IsBad [] = ⊥
 IsBad (s ∷ rest) = is_good s.kind ≡ false
 
 -- a comment's first characters, but not all four
-pub data Lead : List Symbol → Type 0 where
-  Lead0 : Lead []
-  Lead1 : (p : Place) → Lead (mark p Less ∷ [])
-  Lead2 : (p q : Place) → Lead (mark p Less ∷ mark q Bang ∷ [])
-  Lead3 : (p q r : Place) → Lead (mark p Less ∷ mark q Bang ∷ mark r Dash ∷ [])
+pub data Lead : Type 0 where
+  Lead0 : Lead
+  Lead1 : Place → Lead
+  Lead2 : Place → Place → Lead
+  Lead3 : Place → Place → Place → Lead
 
--- where the form stops at the first of the rest: the kind that is answered, and its place
+abbrev pub lead_spelt : Lead → List Symbol
+lead_spelt Lead0 = []
+lead_spelt (Lead1 p) = mark p Less ∷ []
+lead_spelt (Lead2 p q) = mark p Less ∷ mark q Bang ∷ []
+lead_spelt (Lead3 p q r) = mark p Less ∷ mark q Bang ∷ mark r Dash ∷ []
+
+abbrev pub has_begun : Lead → Bool
+has_begun Lead0 = false
+has_begun l = true
+
+-- the root has ended, and then no more has begun than a comment may begin with
+pub record AfterRoot (begun : Bool) (front : List Symbol) : Type 0 where
+  pub document : List Symbol
+  pub lead : Lead
+  pub tree : Tree
+  pub whole : front ≡ document ++ lead_spelt lead
+  pub is_document : IsDocument true document tree
+  pub is_begun : has_begun lead ≡ begun
+
+-- <! stands last
+pub record AfterBang (front : List Symbol) : Type 0 where
+  pub before : List Symbol
+  pub less : Place
+  pub bang : Place
+  pub whole : front ≡ before ++ (mark less Less ∷ mark bang Bang ∷ [])
+
+-- Where the form stops at the first of the rest: the kind that is answered, and its place. After the root everything
+-- but blanks, comments and instructions is Trailing, from its first character on; <!DOCTYPE and <![CDATA[ before and in
+-- the root are Unsupported; a bad character is BadByte; the rest is Expected.
 abbrev pub Because : Place → List Symbol → List Symbol → Fault → Place → Type 0
-Because end front rest Expected p = IsGood rest × (p ≡ place_of end rest)
-Because end front rest BadByte p = IsBad rest × (p ≡ place_of end rest)
-Because end front rest Trailing p = (document : List Symbol) × (lead : List Symbol) × (t : Tree) × (front ≡ document ++ lead) × IsDocument true document t × Lead lead × (p ≡ place_of end (lead ++ rest))
-Because end front rest Unsupported p = (before : List Symbol) × (q : Place) × (front ≡ before ++ (mark p Less ∷ mark q Bang ∷ [])) × (declares rest ≡ true)
+Because end front rest Expected p = IsGood rest × (p ≡ place_of end rest) × ((begun : Bool) → AfterRoot begun front → ⊥) × (AfterBang front → declares rest ≡ true → ⊥)
+Because end front rest BadByte p = IsBad rest × (p ≡ place_of end rest) × (AfterRoot true front → ⊥)
+Because end front rest Trailing p = (begun : Bool) × (x : AfterRoot begun front) × (p ≡ place_of end (lead_spelt x.lead ++ rest)) × (begun ≡ false → IsThere rest)
+Because end front rest Unsupported p = (x : AfterBang front) × (p ≡ x.less) × (declares rest ≡ true) × ((begun : Bool) → AfterRoot begun front → ⊥)
 Because end front rest e p = ⊥
 
 abbrev pub Tells : Place → List Symbol → End → Type 0
