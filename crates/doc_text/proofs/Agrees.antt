@@ -10,7 +10,7 @@ use Rattle.doc_text.specs.Markup.{Target, ByName, ByNumber}
 use Rattle.doc_text.specs.Form.{place_or}
 use Rattle.doc_text.specs.Conditions.{is_known, unknown, is_shallow, is_encoding}
 use Rattle.doc_text.specs.State.{Open, opened, tags, Around, Before, Within, After, Bearer, OfStart, OfAttribute, OfEnd, Citing, Cited, Nameless, ByEntity, Hashed, Decimal, Hexed, Hexadecimal, State, Inside, Begun, Naming, Localing, Spaced, Valued, Shutting, Citation, Step, Goes, Stops, Breaks, First, Encoding, Stated, ToldEncoding}
-use Rattle.doc_text.specs.Machine.{ended, weighed, tag_goes, end_goes, attribute_goes, named, element_begins, begins_in, known, cite, step, encoded}
+use Rattle.doc_text.specs.Steps.{ended, weighed, tag_goes, end_goes, attribute_goes, named, element_begins, begins_in, known, cite, step, encoded}
 
 abbrev pub Agrees : Step → Step → Type 0
 Agrees (Breaks e p) u = Unit {0}

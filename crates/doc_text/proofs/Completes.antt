@@ -8,7 +8,8 @@ use Rattle.doc_text.specs.Symbols.{Kind, Less, Greater, Slash, Semicolon, Quote,
 use Rattle.doc_text.specs.Raw.{Name, called, Start, start, Tree, Node, Nil, Also}
 use Rattle.doc_text.specs.Markup.{is_reserved}
 use Rattle.doc_text.specs.State.{Open, Around, Before, Within, After, Bearer, OfStart, OfAttribute, OfEnd, Citing, InText, InValue, Cited, Nameless, ByEntity, Hashed, Decimal, Hexed, Hexadecimal, State, InProlog, Inside, Epilog, Begun, Banged, BangDash, Remarking, RemarkDash, RemarkEnd, Asked, Targeting, TargetEnd, Telling, Naming, Coloned, Localing, Spaced, Valued, Shutting, Equalling, Opening, Valuing, Ending, Closing, Citation, First, Stage, Untold, ToldVersion, ToldEncoding, ToldStanding, Clause, OfVersion, OfEncoding, OfStanding, Beginning, Declaring, Wording, Equating, Quoting, Numbering, Numbered, Encoding, Answer, Answering, Stated, DeclEnd}
-use Rattle.doc_text.specs.Machine.{back, ended, cited, further, run, Read, clause_value}
+use Rattle.doc_text.specs.Steps.{back, ended, cited, further, clause_value}
+use Rattle.doc_text.specs.Machine.{run, Read}
 
 module _ (end : Place) where
   abbrev pub Ends : State → Type 0

@@ -10,7 +10,8 @@ use Rattle.doc_text.specs.Markup.{Run, No, More, spelt, plain_spelt, QName, Unpr
 use Rattle.doc_text.specs.Form.{Element, Full, EmptyElem, element_spelt, Items, Nothing, Then, items_spelt, Item, Sub, Text, Referred, Passed, item_spelt, tree_of, trees_of, grown, bracketed, last_brackets, brackets, IsApart, miscs_spelt, Document, document_spelt, Prolog, Undeclared, Declared, Following, Helped, prolog_spelt}
 use Rattle.doc_text.specs.Conditions.{passes, is_shallow, is_sound, TagFits, AttributesFit, ElementFits, ItemsFit, ItemFits, AttributesFail, TagFails, ElementFails, ItemsFail, ItemFails, DocumentFits, DocumentFails, PrologFits, PrologFails}
 use Rattle.doc_text.specs.State.{Open, opened, tags, grow, Around, Before, Within, OfStart, OfEnd, InText, State, InProlog, Inside, Begun, Naming, Spaced, Shutting, Ending, Closing, Step, Goes, Beginning, First}
-use Rattle.doc_text.specs.Machine.{ended, weighed, tag_goes, begins_in, element_begins, step, Read, Refused, read}
+use Rattle.doc_text.specs.Steps.{ended, weighed, tag_goes, begins_in, element_begins, step}
+use Rattle.doc_text.specs.Machine.{Read, Refused, read}
 use Rattle.doc_text.proofs.Runs.{false-true, true-false, letters, goes_if, goes_else, Leads, steps, breaks, gaps, optional, breaks_first, name_state, name_reads, name_goes, over, aside_reads, epilog_reads}
 use Rattle.doc_text.proofs.Heads.{prolog_state, prolog_read}
 use Rattle.doc_text.proofs.Outcomes.{failed, Outcome, Passes, Fails, both, turned, led, onward, decide, cites, tag_state, tag_step, attributes_read}

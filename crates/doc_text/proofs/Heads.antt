@@ -10,7 +10,8 @@ use Rattle.doc_text.specs.Markup.{Run, No, More, spelt, joined, plain_bytes, is_
 use Rattle.doc_text.specs.Form.{codes_of, Word, Title, title_spelt, Heading, heading_spelt, VersionInfo, version_spelt, encoding_at, first_place, answer, SDDecl, standalone_spelt, Told, Versioned, Encoded, told_spelt, Clauses, Only, Standing, clauses_spelt, Prolog, Undeclared, Declared, Following, Helped, prolog_spelt}
 use Rattle.doc_text.specs.Conditions.{is_encoding, ToldFits, ClausesFit, PrologFits, ToldFails, ClausesFail, PrologFails}
 use Rattle.doc_text.specs.State.{State, First, Before, Stage, Untold, ToldVersion, ToldEncoding, ToldStanding, Clause, OfVersion, OfEncoding, OfStanding, Beginning, InProlog, Targeting, Declaring, Wording, Equating, Quoting, Numbering, Numbered, Encoding, Answer, Answering, Stated, Goes, Stops}
-use Rattle.doc_text.specs.Machine.{word_of, worded, clause_value, step, run}
+use Rattle.doc_text.specs.Steps.{word_of, worded, clause_value, step}
+use Rattle.doc_text.specs.Machine.{run}
 use Rattle.doc_text.proofs.Runs.{false-true, blanks, goes_if, goes_else, Leads, steps, gaps, optional, target_reads, aside_reads}
 use Rattle.doc_text.proofs.Outcomes.{Outcome, Passes, led, onward, decide}
 

@@ -7,7 +7,8 @@ use Rattle.doc_text.specs.Symbols.{Symbol}
 use Rattle.doc_text.specs.Raw.{called, same_name}
 use Rattle.doc_text.specs.Faults.{Fault, Expected, MismatchedEnd}
 use Rattle.doc_text.specs.State.{OfStart, OfAttribute, OfEnd, State, Beginning, Epilog, Naming, Localing, Step, Goes, Stops, Breaks}
-use Rattle.doc_text.specs.Machine.{step, after, reason, run, read, End, Read, Refused}
+use Rattle.doc_text.specs.Steps.{step}
+use Rattle.doc_text.specs.Machine.{after, reason, run, read, End, Read, Refused}
 use Rattle.doc_text.specs.Laws.{GoesOn, StopsAt, FailsAt, Because, Tells, Exact}
 use Rattle.doc_text.proofs.Zipper.{ZBeginning}
 use Rattle.doc_text.proofs.Stands.{Stands, StepStands}

@@ -8,7 +8,8 @@ use Rattle.doc_text.specs.Faults.{Fault}
 use Rattle.doc_text.specs.Markup.{Run, No, More, spelt, gap_spelt, plain_spelt, plain_bytes, QName, name_spelt, name_of, one_more, counted, Reference, EntityRef, CharRef, HexCharRef, reference_spelt, ByName, target_of, character_of, Values, Empty, Char, Refer, values_spelt, value_of, value_bytes, Attribute, attribute_spelt, Attributes, Alone, Further, attributes_spelt, pairs_of}
 use Rattle.doc_text.specs.Conditions.{passes, is_known, ReferenceFits, ValueFits, AttributesFit, ReferenceFails, ValueFails, AttributesFail}
 use Rattle.doc_text.specs.State.{Open, OfStart, OfAttribute, Citing, InValue, Nameless, ByEntity, Hashed, Decimal, Hexed, Hexadecimal, State, Spaced, Valued, Equalling, Opening, Valuing, Citation, Goes, Breaks}
-use Rattle.doc_text.specs.Machine.{cited, further, tag_goes, step, Refused, run}
+use Rattle.doc_text.specs.Steps.{cited, further, tag_goes, step}
+use Rattle.doc_text.specs.Machine.{Refused, run}
 use Rattle.doc_text.proofs.Runs.{false-true, true-false, letters, names, decimals, hexadecimals, goes_if, goes_else, Leads, steps, breaks, gaps, optional, name_state, gathers, name_reads, over}
 
 pub failed : (strict t : Bool) → passes strict t ≡ false → (strict ≡ true) × (t ≡ false)

@@ -8,7 +8,8 @@ use Rattle.doc_text.specs.Faults.{Expected, MismatchedEnd}
 use Rattle.doc_text.specs.Markup.{is_reserved, is_xml}
 use Rattle.doc_text.specs.Form.{place_or}
 use Rattle.doc_text.specs.State.{Declaring, Untold, ToldVersion, ToldEncoding, ToldStanding, Around, First, Before, Within, After, OfStart, OfAttribute, OfEnd, Nameless, ByEntity, Hashed, Decimal, Hexed, Hexadecimal, State, Wording, Numbering, Numbered, Encoding, Answering, Epilog, Banged, Remarking, Targeting, Telling, Naming, Localing, Citation, Step, Goes, Stops, Breaks}
-use Rattle.doc_text.specs.Machine.{step, after, reason, begins, declares, finish, run, End, Read, Refused}
+use Rattle.doc_text.specs.Steps.{step}
+use Rattle.doc_text.specs.Machine.{after, reason, begins, declares, finish, run, End, Read, Refused}
 use Rattle.doc_text.proofs.Runs.{false-true, true-false}
 use Rattle.doc_text.proofs.Completes.{completes}
 

@@ -8,7 +8,8 @@ use Rattle.doc_text.specs.Faults.{Fault}
 use Rattle.doc_text.specs.Markup.{Run, No, More, spelt, joined, Plain, plain_spelt, plain_bytes, QName, Unprefixed, Prefixed, name_spelt, name_of, Remarks, Silent, Undashed, Dashed, remarks_spelt, ends_asking, IsUnclosed, is_reserved, Aside, Comment, PI, PISaying, aside_spelt}
 use Rattle.doc_text.specs.Form.{Miscs, Bare, Blanked, Aided, miscs_spelt}
 use Rattle.doc_text.specs.State.{Around, Before, After, Bearer, State, Epilog, Begun, Asked, Targeting, TargetEnd, Telling, Naming, Coloned, Localing, Remarking, RemarkDash, Step, Goes, Breaks, First, Within}
-use Rattle.doc_text.specs.Machine.{back, telling, named, step, End, Refused, after, reason, run, targeted, target_goes}
+use Rattle.doc_text.specs.Steps.{back, telling, named, step, targeted, target_goes}
+use Rattle.doc_text.specs.Machine.{End, Refused, after, reason, run}
 
 abbrev IsNot : Bool → Type 0
 IsNot true = ⊥

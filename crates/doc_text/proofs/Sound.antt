@@ -10,7 +10,8 @@ use Rattle.doc_text.specs.Markup.{Run, No, More, spelt, Plain, plain_spelt, plai
 use Rattle.doc_text.specs.Form.{Bare, Blanked, Aided, Element, Full, EmptyElem, element_spelt, Items, Nothing, Then, Sub, Text, Referred, Passed, tree_of, trees_of, brackets, Undeclared, Declared, Following, Helped}
 use Rattle.doc_text.specs.Conditions.{passes, is_known, is_shallow, ElementFits, IsDocument}
 use Rattle.doc_text.specs.State.{opened, ByEntity, Decimal, Hexed, Hexadecimal, State, Naming, Citation, Step, Goes, Stops, Breaks}
-use Rattle.doc_text.specs.Machine.{back, ended, end_begins, opening_quote, attribute_goes, end_goes, target_goes, telling, tag_goes, named, begins_in, element_begins, known, cite, step, End, Read, Refused, after, finish, reason, run, targeted}
+use Rattle.doc_text.specs.Steps.{back, ended, end_begins, opening_quote, attribute_goes, end_goes, target_goes, telling, tag_goes, named, begins_in, element_begins, known, cite, step, targeted}
+use Rattle.doc_text.specs.Machine.{End, Read, Refused, after, finish, reason, run}
 use Rattle.doc_text.proofs.Zipper.{Opens, Bottom, Opened, opens_value, scope, opens_spelt, ZAround, ZBefore, ZWithin, ZAfter, around_value, around_spelt, Part, part_spelt, part_start, Half, ZBearer, ZStart, ZAttribute, ZEnd, bearer_value, bearer_spelt, ZCiting, ZText, ZValue, citing_value, citing_spelt, ZCited, ZNameless, ZEntity, ZHashed, ZDecimal, ZHexed, ZHexadecimal, cited_value, Pointed, Zip, ZProlog, ZInside, ZEpilog, ZBegun, ZBanged, ZBangDash, ZRemarking, ZRemarkDash, ZRemarkEnd, ZAsked, ZTargeting, ZTargetEnd, ZTelling, ZTellingAsked, ZNaming, ZColoned, ZLocaling, ZSpaced, ZValued, ZShutting, ZEqualling, ZOpening, ZValuing, ZEnding, ZClosing, ZCitation, ZFirst, ZBeginning, ZDeclaring, ZWording, ZEquating, ZQuoting, ZNumbering, ZNumbered, ZEncoding, ZAnswer, ZAnswering, ZStated, ZDeclEnd}
 use Rattle.doc_text.proofs.Before.{value, OpensFit, AroundFit, PartFits, BearerFits, CitingFits, Fits, before}
 use Rattle.doc_text.proofs.Stands.{chooses, with_more, letter, gap, tag, Stands, StepStands, to, tests, weighs}

@@ -9,7 +9,7 @@ use Rattle.doc_text.specs.Markup.{Run, No, More, spelt, joined, Gap, gap_spelt}
 use Rattle.doc_text.specs.Form.{codes_of, Word, Title, title_spelt, Heading, heading_spelt, VersionInfo, version_spelt, place_or, first_place, answer, Told, Versioned, Encoded, told_spelt, Clauses, Only, Standing, clauses_spelt}
 use Rattle.doc_text.specs.Conditions.{passes, is_encoding, ToldFits, ClausesFit}
 use Rattle.doc_text.specs.State.{ToldVersion, ToldEncoding, ToldStanding, OfVersion, OfEncoding, OfStanding, Declaring, Wording, Numbering, Numbered, Encoding, Answer, Answering, Stated, Step, Goes, Stops}
-use Rattle.doc_text.specs.Machine.{word_of, worded, clause_begins, declaration_ends, clause_goes, clause_value, clause_quote, spelling, titled, encoded, step}
+use Rattle.doc_text.specs.Steps.{word_of, worded, clause_begins, declaration_ends, clause_goes, clause_value, clause_quote, spelling, titled, encoded, step}
 use Rattle.doc_text.proofs.Zipper.{Sofar, Titled, Claused, sofar_spelt, stage_of, Prior, AtVersion, AtEncoding, AtStanding, prior_spelt, prior_clause, ZDeclaring, ZWording, ZEquating, ZQuoting, ZNumbering, ZNumbered, ZEncoding, ZAnswer, ZAnswering, ZStated, ZDeclEnd}
 use Rattle.doc_text.proofs.Before.{SofarFits, PriorFits, before}
 use Rattle.doc_text.proofs.Stands.{chooses, gap, Stands, StepStands, to, tests}

@@ -7,7 +7,8 @@ use Rattle.doc_text.specs.Faults.{Fault}
 use Rattle.doc_text.specs.Markup.{Run, No, More, Plain, Gap, Tag}
 use Rattle.doc_text.specs.Conditions.{passes}
 use Rattle.doc_text.specs.State.{State, Step, Goes, Stops, Breaks}
-use Rattle.doc_text.specs.Machine.{weighed, run}
+use Rattle.doc_text.specs.Steps.{weighed}
+use Rattle.doc_text.specs.Machine.{run}
 use Rattle.doc_text.proofs.Zipper.{Part, Zip}
 use Rattle.doc_text.proofs.Before.{value, Fits, before}
 

@@ -6,7 +6,7 @@ use Rattle.doc_text.specs.Raw.{Start, start}
 use Rattle.doc_text.specs.Markup.{Run, spelt, Plain, plain_spelt, plain_bytes, QName, name_spelt, name_of, one_more, counted, Values, values_spelt, value_of, Gap, gap_spelt, Attributes, attributes_spelt, pairs_of, Tag, tag_spelt, start_of, Remarks, ends_asking, IsUnclosed, is_reserved}
 use Rattle.doc_text.specs.Form.{codes_of, Word, Title, title_spelt, Heading, VersionInfo, version_spelt, answer, Told, Versioned, Encoded, told_spelt, Clauses, Only, Standing, clauses_spelt, Prolog, prolog_spelt, Miscs, miscs_spelt, Element, element_spelt, Items, items_spelt, tree_of, trees_of}
 use Rattle.doc_text.specs.State.{Stage, Untold, ToldVersion, ToldEncoding, ToldStanding, Clause, OfVersion, OfEncoding, OfStanding, Open, opened, tags, Around, First, Before, Within, After, Bearer, OfStart, OfAttribute, OfEnd, Citing, InText, InValue, Cited, Nameless, ByEntity, Hashed, Decimal, Hexed, Hexadecimal}
-use Rattle.doc_text.specs.Machine.{word_of}
+use Rattle.doc_text.specs.Steps.{word_of}
 
 -- the open elements: what came before the root, then each start tag with what was read in it
 pub data Opens : Type 0 where

@@ -6,6 +6,7 @@ pub mod Markup
 pub mod Form
 pub mod Conditions
 pub mod State
+pub mod Steps
 pub mod Machine
 pub mod Laws
 pub mod Encodings
