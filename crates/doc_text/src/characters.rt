@@ -250,3 +250,69 @@ pub fn read_characters(alloc: Global, bytes: &[u8]) -> Result<Characters, AllocE
     let decoded = decode(alloc, without_mark(bytes))?;
     place_all(alloc, &decoded.characters, decoded.whole)
 }
+
+#[cfg(test)]
+mod tests {
+    use super::*;
+
+    #[test]
+    fn reads(rt: HostRuntime) -> Result<(), AllocError> {
+        let cases: [(&[u8], usize, Kind, u32, u32, u32, u32); 6] = [
+            // the last kind and its place, and the end's place
+            (b"<a", 2, Kind::Letter('a'), 1, 2, 1, 3),
+            (b"\xEF\xBB\xBF<", 1, Kind::Less, 1, 1, 1, 2),
+            (b"\r\n-", 2, Kind::Dash, 2, 1, 2, 2),
+            (b"\r-", 2, Kind::Dash, 1, 2, 1, 3),
+            (b"a\xFFb", 2, Kind::Bad, 1, 2, 1, 3),
+            (
+                b"<?xml version='1.0' encoding='Latin1'?>\xE9",
+                40,
+                Kind::Bad,
+                1,
+                40,
+                1,
+                41,
+            ),
+        ];
+        for (bytes, count, kind, line, column, end_line, end_column) in cases {
+            let found = read_characters(rt.alloc(), bytes)?;
+            assert_eq!(rt; found.symbols.len(), count);
+            assert!(rt;
+                found.symbols.last()
+                    == Some(&Symbol {
+                        kind,
+                        at: Place { line, column }
+                    })
+            );
+            assert!(rt;
+                found.end
+                    == Place {
+                        line: end_line,
+                        column: end_column
+                    }
+            );
+        }
+        Ok(())
+    }
+
+    #[test]
+    fn reads_by_the_declared_encoding(rt: HostRuntime) -> Result<(), AllocError> {
+        let found = read_characters(
+            rt.alloc(),
+            b"<?xml version=\"1.0\" encoding=\"iso-8859-1\"?>\xE9",
+        )?;
+        assert!(rt;
+            found.symbols.last()
+                == Some(&Symbol {
+                    kind: Kind::Letter('\u{E9}'),
+                    at: Place {
+                        line: 1,
+                        column: 44
+                    }
+                })
+        );
+        assert!(rt; is_wide(b"\xFF\xFE<"));
+        assert!(rt; !is_wide(b"<"));
+        Ok(())
+    }
+}
