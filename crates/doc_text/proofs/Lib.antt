@@ -11,6 +11,8 @@ pub mod Agrees
 pub mod Meets
 pub mod Heads
 pub mod Elements
+pub mod Unbroken
+pub mod Cuts
 pub mod Accepts
 pub mod Reasons
 pub mod Main

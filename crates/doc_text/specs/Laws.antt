@@ -1,9 +1,9 @@
 -- What is said of reading: it gives the tree of each document, and each refusal is the right one at its place.
 use Rattle.std.specs.Prelude.{◌≡◌, ◌⊎◌, List, [], ◌∷◌, ◌++◌, Bool, true, false}
 use Rattle.atl_base.specs.declared.place.Place.{Place}
-use Rattle.doc_text.specs.Symbols.{Symbol, mark, Less, Bang, Dash, is_good}
+use Rattle.doc_text.specs.Symbols.{Symbol, mark, Less, Bang, Dash, is_good, Greater}
 use Rattle.doc_text.specs.Raw.{Tree}
-use Rattle.doc_text.specs.Faults.{Fault, BadByte, Expected, Trailing, Unsupported}
+use Rattle.doc_text.specs.Faults.{Fault, BadByte, Expected, MismatchedEnd, Trailing, Unsupported}
 use Rattle.doc_text.specs.Form.{Document, document_spelt}
 use Rattle.doc_text.specs.Conditions.{IsDocument, DocumentFits, DocumentFails}
 use Rattle.doc_text.specs.Machine.{End, Read, Refused, read, declares}
@@ -72,19 +72,30 @@ pub record AfterBang (front : List Symbol) : Type 0 where
   pub bang : Place
   pub whole : front ≡ before ++ (mark less Less ∷ mark bang Bang ∷ [])
 
+-- the form goes on with the first of the rest too, or ends there
+abbrev pub GoesWith : List Symbol → List Symbol → Type 0
+GoesWith front [] = (t : Tree) × IsDocument false front t
+GoesWith front (s ∷ rest) = GoesOn (front ++ (s ∷ []))
+
+-- an end tag's name stands last, and its end breaks: with > here, each text of the form fails so
+abbrev pub EndsWrong : Place → List Symbol → Place → Type 0
+EndsWrong end front p = GoesWith front (mark end Greater ∷ []) × FailsAt MismatchedEnd p front (mark end Greater ∷ [])
+
 -- Where the form stops at the first of the rest: the kind that is answered, and its place. After the root everything
 -- but blanks, comments and instructions is Trailing, from its first character on; <!DOCTYPE and <![CDATA[ before and in
--- the root are Unsupported; a bad character is BadByte; the rest is Expected.
+-- the root are Unsupported; a bad character is BadByte; an end
+-- tag's name that is over is MismatchedEnd; the rest is Expected.
 abbrev pub Because : Place → List Symbol → List Symbol → Fault → Place → Type 0
 Because end front rest Expected p = IsGood rest × (p ≡ place_of end rest) × ((begun : Bool) → AfterRoot begun front → ⊥) × (AfterBang front → declares rest ≡ true → ⊥)
 Because end front rest BadByte p = IsBad rest × (p ≡ place_of end rest) × (AfterRoot true front → ⊥)
 Because end front rest Trailing p = (begun : Bool) × (x : AfterRoot begun front) × (p ≡ place_of end (lead_spelt x.lead ++ rest)) × (begun ≡ false → IsThere rest)
 Because end front rest Unsupported p = (x : AfterBang front) × (p ≡ x.less) × (declares rest ≡ true) × ((begun : Bool) → AfterRoot begun front → ⊥)
+Because end front rest MismatchedEnd p = EndsWrong end front p
 Because end front rest e p = ⊥
 
 abbrev pub Tells : Place → List Symbol → End → Type 0
 Tells end ss (Read t) = IsDocument true ss t
-Tells end ss (Refused f) = (front : List Symbol) × (rest : List Symbol) × (ss ≡ front ++ rest) × GoesOn front × StopsAt true front rest × (FailsAt f.0 f.1 front rest ⊎ (StopsAt false front rest × Because end front rest f.0 f.1))
+Tells end ss (Refused f) = (front : List Symbol) × (rest : List Symbol) × (ss ≡ front ++ rest) × GoesOn front × StopsAt true front rest × ((GoesWith front rest × FailsAt f.0 f.1 front rest) ⊎ (StopsAt false front rest × Because end front rest f.0 f.1))
 
 pub record Exact (end : Place) (ss : List Symbol) : Type 0 where
   pub tells : Tells end ss (read true end ss)
