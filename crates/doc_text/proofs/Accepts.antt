@@ -18,7 +18,7 @@ module _ (end : Place) where
     where
       on : Result strict end x.0 → read strict end (document_spelt x.0) ≡ Read (tree_of x.0.root)
       on (Fit f h) = h
-      on (Unfit s e p v h) = absurd (document_meets e p x.0 (subst (λ b. DocumentFits b x.0) s x.1) v)
+      on (Unfit s e p v h) = absurd (document_meets e p x.0 (subst (λ b. DocumentFits b x.0) s x.1) (subst (λ b. DocumentFails b e p x.0) s v))
 
   abbrev pub Refuses : End → Type 0
   Refuses (Read t) = ⊥
@@ -28,9 +28,9 @@ module _ (end : Place) where
   Taken (Refused f) e p = (f.0 ≡ e) × (f.1 ≡ p)
   Taken (Read t) e p = ⊥
 
-  pub violated : (e : Fault) (p : Place) (d : Document) → DocumentFits false d → read true end (document_spelt d) ≡ Refused (e, p) → DocumentFails e p d
+  pub violated : (e : Fault) (p : Place) (d : Document) → DocumentFits false d → read true end (document_spelt d) ≡ Refused (e, p) → DocumentFails true e p d
   violated e p d f h = on (result true end d f)
     where
-      on : Result true end d → DocumentFails e p d
+      on : Result true end d → DocumentFails true e p d
       on (Fit g k) = absurd (subst Refuses (sym h ∙ k) tt)
-      on (Unfit s x q v k) = let same = subst (λ r. Taken r e p) (sym h ∙ k) (refl, refl) in subst (λ c. DocumentFails c p d) same.0 (subst (λ c. DocumentFails x c d) same.1 v)
+      on (Unfit s x q v k) = let same = subst (λ r. Taken r e p) (sym h ∙ k) (refl, refl) in subst (λ c. DocumentFails true c p d) same.0 (subst (λ c. DocumentFails true x c d) same.1 v)

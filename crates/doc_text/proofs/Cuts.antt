@@ -3,15 +3,15 @@
 use Rattle.std.proofs.Common.{◌≡◌, ℕ, List, [], ◌∷◌, ◌++◌, refl}
 use Rattle.std.specs.Prelude.{Bool, true, false, if◌then◌else◌, Option, Some, None}
 use Rattle.atl_base.specs.declared.place.Place.{Place}
-use Rattle.doc_text.specs.Symbols.{Kind, Greater, Slash, Semicolon, Colon, Blank, Letter, utf8, is_name, is_quote, is_good}
+use Rattle.doc_text.specs.Symbols.{Kind, Greater, Semicolon, Colon, Letter, utf8, is_name, is_quote, is_good}
 use Rattle.doc_text.specs.Raw.{Name, called, Start, start, same_name, Node, Nil}
 use Rattle.doc_text.specs.Faults.{Fault, MismatchedEnd, TooDeep, BadEncoding}
 use Rattle.doc_text.specs.Namespaces.{tag_fault}
 use Rattle.doc_text.specs.Markup.{Target, ByName, ByNumber}
 use Rattle.doc_text.specs.Form.{place_or}
 use Rattle.doc_text.specs.Conditions.{is_known, unknown, is_shallow, is_encoding}
-use Rattle.doc_text.specs.State.{Open, opened, tags, Around, Before, Within, After, Bearer, OfStart, OfAttribute, OfEnd, Citing, Cited, Nameless, ByEntity, Hashed, Decimal, Hexed, Hexadecimal, State, Inside, Begun, Naming, Localing, Spaced, Valued, Shutting, Citation, Step, Goes, Stops, Breaks, First, Encoding, Stated, ToldEncoding}
-use Rattle.doc_text.specs.Steps.{ended, weighed, tag_goes, end_goes, attribute_goes, named, element_begins, begins_in, known, cite, step, encoded}
+use Rattle.doc_text.specs.State.{Open, opened, tags, Around, Before, Within, After, Bearer, OfStart, OfAttribute, OfEnd, Citing, Cited, ByEntity, Decimal, Hexadecimal, State, Inside, Begun, Naming, Localing, Spaced, Valued, Shutting, Citation, Step, Goes, Stops, Breaks, First, Encoding, Stated, ToldEncoding}
+use Rattle.doc_text.specs.Steps.{ended, weighed, tag_goes, end_goes, attribute_goes, named, element_begins, known, cite, step, encoded}
 
 abbrev pub IsGoing : Step → Type 0
 IsGoing (Goes v) = Unit {0}

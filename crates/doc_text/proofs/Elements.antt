@@ -1,5 +1,5 @@
 -- What is written is read, or breaks where a condition fails in it: tags, elements and documents.
-use Rattle.std.proofs.Common.{◌≡◌, ℕ, List, [], ◌∷◌, refl, ap, ◌∙◌, inl, inr}
+use Rattle.std.proofs.Common.{◌≡◌, ℕ, List, [], ◌∷◌, refl, ap, ◌∙◌}
 use Rattle.std.specs.Prelude.{Bool, true, false, ◌⊎◌, ◌&&◌, nat_eq, Option, Some, None, is_none}
 use Rattle.atl_base.specs.declared.place.Place.{Place}
 use Rattle.doc_text.specs.Symbols.{Kind, Less, Greater, Slash, And, Colon, Blank, Letter, Bad, Symbol, mark, utf8, is_blank, is_text, is_greater}
@@ -24,11 +24,6 @@ weigh_goes true (Some f) x h = absurd (false-true h)
 some_of : (o : Option (Fault × Place)) → is_none o ≡ false → (f : Fault × Place) × (o ≡ Some f)
 some_of None h = absurd (true-false h)
 some_of (Some f) h = (f, refl)
-
-apart : {A B C : Type 0} → (A ⊎ B) ⊎ C → A ⊎ (B ⊎ C)
-apart (inl (inl a)) = inl a
-apart (inl (inr b)) = inr (inl b)
-apart (inr c) = inr (inr c)
 
 module _ (strict : Bool) (end : Place) where
   weighs : (s : State) (c : Symbol) (o : Option (Fault × Place)) (u : State) → step strict s c.kind c.at ≡ weighed strict o (Goes u) → Outcome strict end (passes strict (is_none o) ≡ true) (λ e q. o ≡ Some (e, q)) s (λ r. c ∷ r) u
@@ -68,7 +63,7 @@ module _ (strict : Bool) (end : Place) where
   tag_ends fs p n list (More x c h) q = (refl, refl)
 
   abbrev Half : List Open → Tag → State → Type 0
-  Half fs t s = Outcome strict end ((passes strict (is_shallow (tags fs)) ≡ true) × AttributesFit strict t.attributes) (λ e q. ((e ≡ TooDeep) × (q ≡ t.less) × (is_shallow (tags fs) ≡ false)) ⊎ AttributesFail e q t.attributes) s (λ r. tag_spelt t r) (tag_end fs t)
+  Half fs t s = Outcome strict end ((passes strict (is_shallow (tags fs)) ≡ true) × AttributesFit strict t.attributes) (λ e q. ((e ≡ TooDeep) × (q ≡ t.less) × (is_shallow (tags fs) ≡ false)) ⊎ ((passes strict (is_shallow (tags fs)) ≡ true) × AttributesFail strict e q t.attributes)) s (λ r. tag_spelt t r) (tag_end fs t)
 
   half_tag : (s : State) (a : Around) (fs : List Open) → ((p : Place) → step strict s Less p ≡ Goes (Begun a p)) → ((p : Place) (c : ℕ) (q : Place) → element_begins strict a p (Letter c) q ≡ begins_in strict fs p (Letter c) q) → (t : Tag) → Half fs t s
   half_tag s a fs f g t =
@@ -79,12 +74,12 @@ module _ (strict : Bool) (end : Place) where
   tag_fits : (outer : List Start) (t : Tag) → ((passes strict (is_shallow outer) ≡ true) × AttributesFit strict t.attributes) × (passes strict (is_sound outer (start_of t)) ≡ true) → TagFits strict outer t
   tag_fits outer t f = record { shallow = f.0.0; attributes = f.0.1; sound = f.1 }
 
-  tag_opens : (fs : List Open) (t : Tag) (g : Place) (s : State) → Half fs t s → Outcome strict end (TagFits strict (tags fs) t) (λ e q. TagFails e q (tags fs) t) s (λ r. tag_spelt t (mark g Greater ∷ r)) (Inside 0 (opened (start_of t) Nil) fs)
-  tag_opens fs t g s h = turned strict end (tag_fits (tags fs) t) (λ e q. apart) (both strict end h
+  tag_opens : (fs : List Open) (t : Tag) (g : Place) (s : State) → Half fs t s → Outcome strict end (TagFits strict (tags fs) t) (λ e q. TagFails strict e q (tags fs) t) s (λ r. tag_spelt t (mark g Greater ∷ r)) (Inside 0 (opened (start_of t) Nil) fs)
+  tag_opens fs t g s h = turned strict end (tag_fits (tags fs) t) (λ e q v. v) (both strict end h
       (weighs (tag_end fs t) (mark g Greater) (tag_fault (tags fs) (start_of t)) (Inside 0 (opened (start_of t) Nil) fs) (tag_ends fs t.less t.name t.attributes t.blanks g).1))
 
-  tag_closes : (fs : List Open) (t : Tag) (o g : Place) (s : State) → Half fs t s → Outcome strict end (TagFits strict (tags fs) t) (λ e q. TagFails e q (tags fs) t) s (λ r. tag_spelt t (mark o Slash ∷ mark g Greater ∷ r)) (ended fs (Node (start_of t) Nil))
-  tag_closes fs t o g s h = turned strict end (tag_fits (tags fs) t) (λ e q. apart) (both strict end
+  tag_closes : (fs : List Open) (t : Tag) (o g : Place) (s : State) → Half fs t s → Outcome strict end (TagFits strict (tags fs) t) (λ e q. TagFails strict e q (tags fs) t) s (λ r. tag_spelt t (mark o Slash ∷ mark g Greater ∷ r)) (ended fs (Node (start_of t) Nil))
+  tag_closes fs t o g s h = turned strict end (tag_fits (tags fs) t) (λ e q v. v) (both strict end
       (onward strict end (λ r. mark o Slash ∷ r) h (λ r. steps strict end (tag_end fs t) (mark o Slash) r (Shutting fs (start_of t)) (tag_ends fs t.less t.name t.attributes t.blanks o).0))
       (weighs (Shutting fs (start_of t)) (mark g Greater) (tag_fault (tags fs) (start_of t)) (ended fs (Node (start_of t) Nil)) refl))
 
@@ -111,16 +106,16 @@ module _ (strict : Bool) (end : Place) where
   text_step n f fs k p h a = refl
 
   mutual
-    pub element_read : (e : Element) (s : State) (a : Around) (fs : List Open) → ((p : Place) → step strict s Less p ≡ Goes (Begun a p)) → ((p : Place) (c : ℕ) (q : Place) → element_begins strict a p (Letter c) q ≡ begins_in strict fs p (Letter c) q) → ElementFits false (tags fs) e → Outcome strict end (ElementFits strict (tags fs) e) (λ x q. ElementFails x q (tags fs) e) s (element_spelt e) (ended fs (tree_of e))
-    element_read (Full t g is e) s a fs f i h = turned strict end (λ x. (x.0.0, x.0.1, x.1)) (λ x q. apart)
+    pub element_read : (e : Element) (s : State) (a : Around) (fs : List Open) → ((p : Place) → step strict s Less p ≡ Goes (Begun a p)) → ((p : Place) (c : ℕ) (q : Place) → element_begins strict a p (Letter c) q ≡ begins_in strict fs p (Letter c) q) → ElementFits false (tags fs) e → Outcome strict end (ElementFits strict (tags fs) e) (λ x q. ElementFails strict x q (tags fs) e) s (element_spelt e) (ended fs (tree_of e))
+    element_read (Full t g is e) s a fs f i h = turned strict end (λ x. (x.0.0, x.0.1, x.1)) (λ x q v. v)
         (both strict end (both strict end (tag_opens fs t g s (half_tag s a fs f i t)) (items_read is (start_of t) fs h.1)) (end_reads (brackets is) (opened (start_of t) (trees_of is)) fs e))
     element_read (EmptyElem t o g) s a fs f i h = tag_closes fs t o g s (half_tag s a fs f i t)
 
-    pub items_read : (is : Items) (t : Start) (fs : List Open) → ItemsFit false (t ∷ tags fs) is → Outcome strict end (ItemsFit strict (t ∷ tags fs) is) (λ x q. ItemsFail x q (t ∷ tags fs) is) (Inside 0 (opened t Nil) fs) (items_spelt is) (Inside (brackets is) (opened t (trees_of is)) fs)
+    pub items_read : (is : Items) (t : Start) (fs : List Open) → ItemsFit false (t ∷ tags fs) is → Outcome strict end (ItemsFit strict (t ∷ tags fs) is) (λ x q. ItemsFail strict x q (t ∷ tags fs) is) (Inside 0 (opened t Nil) fs) (items_spelt is) (Inside (brackets is) (opened t (trees_of is)) fs)
     items_read Nothing t fs h = Passes tt (λ r. refl)
     items_read (Then is i) t fs h = turned strict end (λ x. (x.0, x.1, h.2)) (λ x q v. v) (both strict end (items_read is t fs h.0) (item_read i (brackets is) t (trees_of is) fs h.1 h.2))
 
-    pub item_read : (i : Item) (n : ℕ) (t : Start) (ts : Trees) (fs : List Open) → ItemFits false (t ∷ tags fs) i → IsApart n i → Outcome strict end (ItemFits strict (t ∷ tags fs) i) (λ x q. ItemFails x q (t ∷ tags fs) i) (Inside n (opened t ts) fs) (item_spelt i) (Inside (last_brackets n i) (opened t (grown ts i)) fs)
+    pub item_read : (i : Item) (n : ℕ) (t : Start) (ts : Trees) (fs : List Open) → ItemFits false (t ∷ tags fs) i → IsApart n i → Outcome strict end (ItemFits strict (t ∷ tags fs) i) (λ x q. ItemFails strict x q (t ∷ tags fs) i) (Inside n (opened t ts) fs) (item_spelt i) (Inside (last_brackets n i) (opened t (grown ts i)) fs)
     item_read (Sub e) n t ts fs h k = element_read e (Inside n (opened t ts) fs) (Within (opened t ts) fs) (opened t ts ∷ fs) (λ p. refl) (λ p c q. refl) h
     item_read (Text s i) n t ts fs h k = Passes tt (λ r. steps strict end (Inside n (opened t ts) fs) s r _ (text_step n (opened t ts) fs s.kind s.at i k))
     item_read (Referred r) n t ts fs h k = cites strict end r (InText (opened t ts) fs) (Inside n (opened t ts) fs) (λ p. refl)
@@ -129,9 +124,9 @@ module _ (strict : Bool) (end : Place) where
   -- a document of the form is read, or breaks where a condition fails in it
   pub data Result (d : Document) : Type 0 where
     Fit : DocumentFits strict d → read strict end (document_spelt d) ≡ Read (tree_of d.root) → Result d
-    Unfit : strict ≡ true → (e : Fault) (p : Place) → DocumentFails e p d → read strict end (document_spelt d) ≡ Refused (e, p) → Result d
+    Unfit : strict ≡ true → (e : Fault) (p : Place) → DocumentFails strict e p d → read strict end (document_spelt d) ≡ Refused (e, p) → Result d
 
-  root_read : (m : Prolog) (e : Element) → ElementFits false [] e → Outcome strict end (ElementFits strict [] e) (λ x q. ElementFails x q [] e) (prolog_state strict end m) (element_spelt e) (ended [] (tree_of e))
+  root_read : (m : Prolog) (e : Element) → ElementFits false [] e → Outcome strict end (ElementFits strict [] e) (λ x q. ElementFails strict x q [] e) (prolog_state strict end m) (element_spelt e) (ended [] (tree_of e))
   root_read Undeclared e h = element_read e Beginning First [] (λ p. refl) (λ p c q. refl) h
   root_read (Declared d) e h = element_read e InProlog Before [] (λ p. refl) (λ p c q. refl) h
   root_read (Following m s i) e h = element_read e InProlog Before [] (λ p. refl) (λ p c q. refl) h
@@ -140,6 +135,6 @@ module _ (strict : Bool) (end : Place) where
   pub result : (d : Document) → DocumentFits false d → Result d
   result d h = on (both strict end (prolog_read strict end d.prolog) (root_read d.prolog d.root h.1))
     where
-      on : Outcome strict end (PrologFits strict d.prolog × ElementFits strict [] d.root) (λ x q. PrologFails x q d.prolog ⊎ ElementFails x q [] d.root) Beginning (λ r. prolog_spelt d.prolog (element_spelt d.root r)) (ended [] (tree_of d.root)) → Result d
+      on : Outcome strict end (PrologFits strict d.prolog × ElementFits strict [] d.root) (λ x q. PrologFails x q d.prolog ⊎ (PrologFits strict d.prolog × ElementFails strict x q [] d.root)) Beginning (λ r. prolog_spelt d.prolog (element_spelt d.root r)) (ended [] (tree_of d.root)) → Result d
       on (Passes x k) = Fit x (k (miscs_spelt d.epilog []) ∙ epilog_reads strict end (tree_of d.root) d.epilog [])
       on (Fails t e p v k) = Unfit t e p v (k (miscs_spelt d.epilog []))

@@ -11,7 +11,7 @@ use Rattle.doc_text.specs.Faults.{Fault, Expected, MismatchedEnd}
 use Rattle.doc_text.specs.State.{OfStart, OfAttribute, OfEnd, State, Beginning, Epilog, Naming, Localing, Step, Goes, Stops, Breaks}
 use Rattle.doc_text.specs.Steps.{step, ended}
 use Rattle.doc_text.specs.Machine.{after, reason, run, read, End, Read, Refused}
-use Rattle.doc_text.specs.Laws.{GoesOn, StopsAt, FailsAt, Because, Tells, Exact, GoesWith, EndsWrong}
+use Rattle.doc_text.specs.Laws.{GoesOn, StopsAt, FailsAt, Because, Tells, Exact, GoesWith}
 use Rattle.doc_text.proofs.Zipper.{ZBeginning}
 use Rattle.doc_text.proofs.Stands.{Stands, StepStands}
 use Rattle.doc_text.proofs.Sound.{steps_on, ReadOf, sound}

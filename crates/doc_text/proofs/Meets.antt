@@ -57,35 +57,35 @@ module _ (strict : Bool) where
 reference_meets : (e : Fault) (p : Place) (r : Reference) → ReferenceFits true r → ReferenceFails e p r → ⊥
 reference_meets e p r h v = true-false (sym h ∙ v.2)
 
-value_meets : (e : Fault) (p : Place) {double : Bool} (v : Values double) → ValueFits true v → ValueFails e p v → ⊥
+value_meets : (e : Fault) (p : Place) {double : Bool} (v : Values double) → ValueFits true v → ValueFails true e p v → ⊥
 value_meets e p Empty h x = absurd x
 value_meets e p (Char v s i) h x = value_meets e p v h x
 value_meets e p (Refer v r) h (inl x) = value_meets e p v h.0 x
-value_meets e p (Refer v r) h (inr x) = reference_meets e p r h.1 x
+value_meets e p (Refer v r) h (inr x) = reference_meets e p r h.1 x.1
 
-attributes_meet : (e : Fault) (p : Place) (list : Attributes) → AttributesFit true list → AttributesFail e p list → ⊥
+attributes_meet : (e : Fault) (p : Place) (list : Attributes) → AttributesFit true list → AttributesFail true e p list → ⊥
 attributes_meet e p Alone h x = absurd x
 attributes_meet e p (Further list a) h (inl x) = attributes_meet e p list h.0 x
-attributes_meet e p (Further list a) h (inr x) = value_meets e p a.value h.1 x
+attributes_meet e p (Further list a) h (inr x) = value_meets e p a.value h.1 x.1
 
-tag_meets : (e : Fault) (p : Place) (outer : List Start) (t : Tag) → TagFits true outer t → TagFails e p outer t → ⊥
-tag_meets e p outer t h (inl x) = true-false (sym h.shallow ∙ x.2)
-tag_meets e p outer t h (inr (inl x)) = attributes_meet e p t.attributes h.attributes x
-tag_meets e p outer t h (inr (inr x)) = true-false (sym h.sound ∙ ap is_none x)
+tag_meets : (e : Fault) (p : Place) (outer : List Start) (t : Tag) → TagFits true outer t → TagFails true e p outer t → ⊥
+tag_meets e p outer t h (inl (inl x)) = true-false (sym h.shallow ∙ x.2)
+tag_meets e p outer t h (inl (inr x)) = attributes_meet e p t.attributes h.attributes x.1
+tag_meets e p outer t h (inr x) = true-false (sym h.sound ∙ ap is_none x.1)
 
 mutual
-  pub element_meets : (f : Element) (e : Fault) (p : Place) (outer : List Start) → ElementFits true outer f → ElementFails e p outer f → ⊥
-  element_meets (Full t g is f) e p outer h (inl x) = tag_meets e p outer t h.0 x
-  element_meets (Full t g is f) e p outer h (inr (inl x)) = items_meet is e p (start_of t ∷ outer) h.1 x
-  element_meets (Full t g is f) e p outer h (inr (inr x)) = true-false (sym h.2 ∙ x.2)
+  pub element_meets : (f : Element) (e : Fault) (p : Place) (outer : List Start) → ElementFits true outer f → ElementFails true e p outer f → ⊥
+  element_meets (Full t g is f) e p outer h (inl (inl x)) = tag_meets e p outer t h.0 x
+  element_meets (Full t g is f) e p outer h (inl (inr x)) = items_meet is e p (start_of t ∷ outer) h.1 x.1
+  element_meets (Full t g is f) e p outer h (inr x) = true-false (sym h.2 ∙ x.1.2)
   element_meets (EmptyElem t s g) e p outer h x = tag_meets e p outer t h x
 
-  items_meet : (is : Items) (e : Fault) (p : Place) (outer : List Start) → ItemsFit true outer is → ItemsFail e p outer is → ⊥
+  items_meet : (is : Items) (e : Fault) (p : Place) (outer : List Start) → ItemsFit true outer is → ItemsFail true e p outer is → ⊥
   items_meet Nothing e p outer h x = absurd x
   items_meet (Then is i) e p outer h (inl x) = items_meet is e p outer h.0 x
-  items_meet (Then is i) e p outer h (inr x) = item_meets i e p outer h.1 x
+  items_meet (Then is i) e p outer h (inr x) = item_meets i e p outer h.1 x.1
 
-  item_meets : (i : Item) (e : Fault) (p : Place) (outer : List Start) → ItemFits true outer i → ItemFails e p outer i → ⊥
+  item_meets : (i : Item) (e : Fault) (p : Place) (outer : List Start) → ItemFits true outer i → ItemFails true e p outer i → ⊥
   item_meets (Sub f) e p outer h x = element_meets f e p outer h x
   item_meets (Text s k) e p outer h x = absurd x
   item_meets (Referred r) e p outer h x = reference_meets e p r h x
@@ -105,6 +105,6 @@ prolog_meets e p (Declared d) h x = clauses_meet e p d.clauses h x
 prolog_meets e p (Following m s i) h x = prolog_meets e p m h x
 prolog_meets e p (Helped m a) h x = prolog_meets e p m h x
 
-pub document_meets : (e : Fault) (p : Place) (d : Document) → DocumentFits true d → DocumentFails e p d → ⊥
+pub document_meets : (e : Fault) (p : Place) (d : Document) → DocumentFits true d → DocumentFails true e p d → ⊥
 document_meets e p d h (inl x) = prolog_meets e p d.prolog h.0 x
-document_meets e p d h (inr x) = element_meets d.root e p [] h.1 x
+document_meets e p d h (inr x) = element_meets d.root e p [] h.1 x.1

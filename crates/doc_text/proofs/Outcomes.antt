@@ -22,9 +22,9 @@ module _ (strict : Bool) (end : Place) where
     Passes : F → ((r : List Symbol) → run strict end s (text r) ≡ run strict end u r) → Outcome F V s text u
     Fails : strict ≡ true → (e : Fault) (p : Place) → V e p → ((r : List Symbol) → run strict end s (text r) ≡ Refused (e, p)) → Outcome F V s text u
 
-  pub both : {F G : Type 0} {V W : Fault → Place → Type 0} {s m u : State} {text more : List Symbol → List Symbol} → Outcome F V s text m → Outcome G W m more u → Outcome (F × G) (λ e p. V e p ⊎ W e p) s (λ r. text (more r)) u
+  pub both : {F G : Type 0} {V W : Fault → Place → Type 0} {s m u : State} {text more : List Symbol → List Symbol} → Outcome F V s text m → Outcome G W m more u → Outcome (F × G) (λ e p. V e p ⊎ (F × W e p)) s (λ r. text (more r)) u
   both (Passes f h) (Passes g k) = Passes (f, g) (λ r. h _ ∙ k r)
-  both (Passes f h) (Fails t e p w k) = Fails t e p (inr w) (λ r. h _ ∙ k r)
+  both (Passes f h) (Fails t e p w k) = Fails t e p (inr (f, w)) (λ r. h _ ∙ k r)
   both (Fails t e p v h) o = Fails t e p (inl v) (λ r. h _)
 
   pub turned : {F G : Type 0} {V W : Fault → Place → Type 0} {s u : State} {text : List Symbol → List Symbol} → (F → G) → ((e : Fault) (p : Place) → V e p → W e p) → Outcome F V s text u → Outcome G W s text u
@@ -93,7 +93,7 @@ module _ (strict : Bool) (end : Place) where
   valuing false fs t n v Apostrophe p h = absurd (false-true h)
   valuing d fs t n v k p h = refl
 
-  values_read : {d : Bool} (fs : List Open) (t : Start) (n : Name) (v : Values d) → Outcome (ValueFits strict v) (λ e p. ValueFails e p v) (Valuing d fs t n []) (values_spelt v) (Valuing d fs t n (value_of v))
+  values_read : {d : Bool} (fs : List Open) (t : Start) (n : Name) (v : Values d) → Outcome (ValueFits strict v) (λ e p. ValueFails strict e p v) (Valuing d fs t n []) (values_spelt v) (Valuing d fs t n (value_of v))
   values_read {d} fs t n Empty = Passes tt (λ r. refl)
   values_read {d} fs t n (Char v s h) = onward (λ r. s ∷ r) (values_read fs t n v) (λ r. steps strict end (Valuing d fs t n (value_of v)) s r _ (valuing d fs t n (value_of v) s.kind s.at h))
   values_read {d} fs t n (Refer v x) = both (values_read fs t n v) (cites x (InValue d fs t n (value_of v)) (Valuing d fs t n (value_of v)) (λ p. refl))
@@ -113,7 +113,7 @@ module _ (strict : Bool) (end : Place) where
   equals fs t n b e r = optional strict end (name_state strict end (OfAttribute fs t) n) (Equalling fs t (name_of n)) (λ c p. over strict end (OfAttribute fs t) n (Blank c) p tt) (λ c p. refl) b (mark e Equals ∷ r) _
       (steps strict end (name_state strict end (OfAttribute fs t) n) (mark e Equals) r (Opening fs t (name_of n)) (over strict end (OfAttribute fs t) n Equals e tt)) refl
 
-  attribute_reads : (s : State) (fs : List Open) (t : Start) → ((c : ℕ) (p : Place) → step strict s (Blank c) p ≡ Goes (Spaced fs t)) → (a : Attribute) → Outcome (ValueFits strict a.value) (λ e p. ValueFails e p a.value) s (attribute_spelt a) (Valued fs (further t (name_of a.name) (value_of a.value)))
+  attribute_reads : (s : State) (fs : List Open) (t : Start) → ((c : ℕ) (p : Place) → step strict s (Blank c) p ≡ Goes (Spaced fs t)) → (a : Attribute) → Outcome (ValueFits strict a.value) (λ e p. ValueFails strict e p a.value) s (attribute_spelt a) (Valued fs (further t (name_of a.name) (value_of a.value)))
   attribute_reads s fs t f a =
       led (λ r. gap_spelt a.gap (name_spelt a.name (spelt a.before (mark a.equals Equals ∷ spelt a.after (mark a.opens (quote a.double) ∷ r))))) (λ r.
       gaps strict end s (Spaced fs t) f (λ c p. refl) a.gap.blanks a.gap.last a.gap.ends _
@@ -142,6 +142,6 @@ module _ (strict : Bool) (end : Place) where
   tag_step fs p n (Further list a) Greater q h = refl
   tag_step fs p n list k q h = absurd h
 
-  pub attributes_read : (fs : List Open) (p : Place) (n : QName) (list : Attributes) → Outcome (AttributesFit strict list) (λ e q. AttributesFail e q list) (tag_state fs p n Alone) (attributes_spelt list) (tag_state fs p n list)
+  pub attributes_read : (fs : List Open) (p : Place) (n : QName) (list : Attributes) → Outcome (AttributesFit strict list) (λ e q. AttributesFail strict e q list) (tag_state fs p n Alone) (attributes_spelt list) (tag_state fs p n list)
   attributes_read fs p n Alone = Passes tt (λ r. refl)
   attributes_read fs p n (Further list a) = both (attributes_read fs p n list) (attribute_reads (tag_state fs p n list) fs (start p (name_of n) (pairs_of list)) (λ c q. tag_step fs p n list (Blank c) q tt) a)

@@ -1,16 +1,13 @@
 -- The form alone breaks nothing, and where it stops but a condition breaks, the name of an end tag is over.
-use Rattle.std.proofs.Common.{◌≡◌, ℕ, List, [], ◌∷◌, ◌++◌, refl}
-use Rattle.std.specs.Prelude.{Bool, true, false, if◌then◌else◌, Option, Some, None, nat_eq, codes}
+use Rattle.std.proofs.Common.{ℕ, List, [], ◌∷◌, ◌++◌}
+use Rattle.std.specs.Prelude.{Bool, true, false, if◌then◌else◌, Option, Some, nat_eq, codes}
 use Rattle.atl_base.specs.declared.place.Place.{Place}
-use Rattle.doc_text.specs.Symbols.{Kind, Greater, Slash, Semicolon, Colon, Blank, Letter, utf8, is_name, is_quote, is_good, Less, And, Quote, Apostrophe, Equals, Bang, Question, Hash, Dash, Joint, is_code, is_decimal, is_ex, is_hexadecimal}
-use Rattle.doc_text.specs.Raw.{Name, called, Start, start, same_name, Node, Nil}
-use Rattle.doc_text.specs.Faults.{Fault, MismatchedEnd, TooDeep, BadEncoding}
-use Rattle.doc_text.specs.Namespaces.{tag_fault}
-use Rattle.doc_text.specs.Markup.{Target, ByName, ByNumber, is_reserved, is_xml, one_more}
+use Rattle.doc_text.specs.Symbols.{Kind, Greater, Slash, Semicolon, Colon, Blank, Letter, utf8, is_name, is_quote, is_good, Less, Quote, Apostrophe, Equals, Question, Hash, Dash, Joint, is_code, is_decimal, is_ex, is_hexadecimal}
+use Rattle.doc_text.specs.Raw.{Name, called, Start, start}
+use Rattle.doc_text.specs.Markup.{is_reserved, is_xml, one_more}
 use Rattle.doc_text.specs.Form.{place_or}
-use Rattle.doc_text.specs.Conditions.{is_known, unknown, is_shallow, is_encoding}
-use Rattle.doc_text.specs.State.{Open, opened, tags, Around, Before, Within, After, Bearer, OfStart, OfAttribute, OfEnd, Citing, Cited, Nameless, ByEntity, Hashed, Decimal, Hexed, Hexadecimal, State, Inside, Begun, Naming, Localing, Spaced, Valued, Shutting, Citation, Step, Goes, Stops, Breaks, First, Encoding, Stated, ToldEncoding, Stage, Untold, ToldVersion, ToldStanding, Clause, OfVersion, OfEncoding, OfStanding, Beginning, Declaring, Wording, Equating, Quoting, Numbering, Numbered, Answer, Answering, DeclEnd, InProlog, Epilog, Banged, BangDash, Remarking, RemarkDash, RemarkEnd, Asked, Targeting, TargetEnd, Telling, Coloned, Equalling, Opening, Valuing, Ending, Closing, grow}
-use Rattle.doc_text.specs.Steps.{ended, weighed, tag_goes, end_goes, attribute_goes, named, element_begins, begins_in, known, cite, step, encoded, word_of, worded, spelling, clause_begins, declaration_ends, clause_goes, clause_quote, opening_quote, target_goes, titled, targeted, telling, in_value, end_begins}
+use Rattle.doc_text.specs.State.{Open, Around, Before, Within, After, Bearer, OfStart, OfAttribute, OfEnd, Citing, Cited, Nameless, ByEntity, Hashed, Decimal, Hexed, Hexadecimal, State, Inside, Begun, Naming, Localing, Spaced, Valued, Shutting, Citation, Step, Goes, Stops, Breaks, First, Encoding, Stated, ToldEncoding, Stage, Untold, ToldVersion, ToldStanding, Clause, OfVersion, OfEncoding, OfStanding, Beginning, Declaring, Wording, Equating, Quoting, Numbering, Numbered, Answer, Answering, DeclEnd, InProlog, Epilog, Banged, BangDash, Remarking, RemarkDash, RemarkEnd, Asked, Targeting, TargetEnd, Telling, Coloned, Equalling, Opening, Valuing, Ending, Closing, grow}
+use Rattle.doc_text.specs.Steps.{tag_goes, end_goes, attribute_goes, named, element_begins, cite, step, encoded, word_of, worded, spelling, clause_begins, declaration_ends, clause_goes, clause_quote, opening_quote, target_goes, titled, targeted, telling, in_value, end_begins}
 
 abbrev pub Unbroken : Step → Type 0
 Unbroken (Goes v) = Unit {0}

@@ -95,36 +95,10 @@ module _ (strict : Bool) where
 abbrev pub IsDocument : Bool → List Symbol → Tree → Type 0
 IsDocument strict ss root = (d : Document) × DocumentFits strict d × (document_spelt d ≡ ss) × (tree_of d.root ≡ root)
 
--- a condition fails: for this reason, at this place
+-- The first condition that fails in what is written, in the order in which each is read to its end: for this reason, at
+-- this place, after all before it are kept.
 abbrev pub ReferenceFails : Fault → Place → Reference → Type 0
 ReferenceFails e p r = (e ≡ unknown (target_of r)) × (p ≡ reference_at r) × (is_known (target_of r) ≡ false)
-
-abbrev pub ValueFails : Fault → Place → {double : Bool} → Values double → Type 0
-ValueFails e p Empty = ⊥
-ValueFails e p (Char v s h) = ValueFails e p v
-ValueFails e p (Refer v r) = ValueFails e p v ⊎ ReferenceFails e p r
-
-abbrev pub AttributesFail : Fault → Place → Attributes → Type 0
-AttributesFail e p Alone = ⊥
-AttributesFail e p (Further list a) = AttributesFail e p list ⊎ ValueFails e p a.value
-
-abbrev pub TagFails : Fault → Place → List Start → Tag → Type 0
-TagFails e p outer t = ((e ≡ TooDeep) × (p ≡ t.less) × (is_shallow outer ≡ false)) ⊎ (AttributesFail e p t.attributes ⊎ (tag_fault outer (start_of t) ≡ Some (e, p)))
-
-abbrev mutual
-  pub ElementFails : Fault → Place → List Start → Element → Type 0
-  ElementFails e p outer (Full t g is f) = TagFails e p outer t ⊎ (ItemsFail e p (start_of t ∷ outer) is ⊎ ((e ≡ MismatchedEnd) × (p ≡ (name_of f.name).at) × (same_name (name_of f.name) (name_of t.name) ≡ false)))
-  ElementFails e p outer (EmptyElem t s g) = TagFails e p outer t
-
-  pub ItemsFail : Fault → Place → List Start → Items → Type 0
-  ItemsFail e p outer Nothing = ⊥
-  ItemsFail e p outer (Then is i) = ItemsFail e p outer is ⊎ ItemFails e p outer i
-
-  pub ItemFails : Fault → Place → List Start → Item → Type 0
-  ItemFails e p outer (Sub x) = ElementFails e p outer x
-  ItemFails e p outer (Text s h) = ⊥
-  ItemFails e p outer (Referred r) = ReferenceFails e p r
-  ItemFails e p outer (Passed a) = ⊥
 
 abbrev pub EncodingFails : Fault → Place → EncodingDecl → Type 0
 EncodingFails e p x = (e ≡ BadEncoding) × (p ≡ encoding_at x) × (is_encoding (joined [] x.name) ≡ false)
@@ -143,5 +117,38 @@ PrologFails e p (Declared d) = ClausesFail e p d.clauses
 PrologFails e p (Following m s h) = PrologFails e p m
 PrologFails e p (Helped m a) = PrologFails e p m
 
-abbrev pub DocumentFails : Fault → Place → Document → Type 0
-DocumentFails e p d = PrologFails e p d.prolog ⊎ ElementFails e p [] d.root
+module _ (strict : Bool) where
+  abbrev pub ValueFails : Fault → Place → {double : Bool} → Values double → Type 0
+  ValueFails e p Empty = ⊥
+  ValueFails e p (Char v s h) = ValueFails e p v
+  ValueFails e p (Refer v r) = ValueFails e p v ⊎ (ValueFits strict v × ReferenceFails e p r)
+
+  abbrev pub AttributesFail : Fault → Place → Attributes → Type 0
+  AttributesFail e p Alone = ⊥
+  AttributesFail e p (Further list a) = AttributesFail e p list ⊎ (AttributesFit strict list × ValueFails e p a.value)
+
+  -- its depth, then its attributes' references, then its names
+  abbrev pub TagFails : Fault → Place → List Start → Tag → Type 0
+  TagFails e p outer t =
+      (((e ≡ TooDeep) × (p ≡ t.less) × (is_shallow outer ≡ false)) ⊎ ((passes strict (is_shallow outer) ≡ true) × AttributesFail e p t.attributes))
+      ⊎ (((passes strict (is_shallow outer) ≡ true) × AttributesFit strict t.attributes) × (tag_fault outer (start_of t) ≡ Some (e, p)))
+
+  abbrev mutual
+    pub ElementFails : Fault → Place → List Start → Element → Type 0
+    ElementFails e p outer (Full t g is f) =
+        (TagFails e p outer t ⊎ (TagFits strict outer t × ItemsFail e p (start_of t ∷ outer) is))
+        ⊎ ((TagFits strict outer t × ItemsFit strict (start_of t ∷ outer) is) × ((e ≡ MismatchedEnd) × (p ≡ (name_of f.name).at) × (same_name (name_of f.name) (name_of t.name) ≡ false)))
+    ElementFails e p outer (EmptyElem t s g) = TagFails e p outer t
+
+    pub ItemsFail : Fault → Place → List Start → Items → Type 0
+    ItemsFail e p outer Nothing = ⊥
+    ItemsFail e p outer (Then is i) = ItemsFail e p outer is ⊎ (ItemsFit strict outer is × ItemFails e p outer i)
+
+    pub ItemFails : Fault → Place → List Start → Item → Type 0
+    ItemFails e p outer (Sub x) = ElementFails e p outer x
+    ItemFails e p outer (Text s h) = ⊥
+    ItemFails e p outer (Referred r) = ReferenceFails e p r
+    ItemFails e p outer (Passed a) = ⊥
+
+  abbrev pub DocumentFails : Fault → Place → Document → Type 0
+  DocumentFails e p d = PrologFails e p d.prolog ⊎ (PrologFits strict d.prolog × ElementFails e p [] d.root)

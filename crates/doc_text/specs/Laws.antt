@@ -17,10 +17,10 @@ abbrev pub StopsAt : Bool → List Symbol → List Symbol → Type 0
 StopsAt strict front [] = (t : Tree) → IsDocument strict front t → ⊥
 StopsAt strict front (s ∷ rest) = (more : List Symbol) (t : Tree) → IsDocument strict (front ++ (s ∷ more)) t → ⊥
 
--- each text of the form that agrees so far fails a condition of this kind at this place
+-- the first condition that fails in each text of the form that agrees so far is of this kind and at this place
 abbrev pub FailsAt : Fault → Place → List Symbol → List Symbol → Type 0
-FailsAt e p front [] = (d : Document) → DocumentFits false d → document_spelt d ≡ front → DocumentFails e p d
-FailsAt e p front (s ∷ rest) = (more : List Symbol) (d : Document) → DocumentFits false d → document_spelt d ≡ front ++ (s ∷ more) → DocumentFails e p d
+FailsAt e p front [] = (d : Document) → DocumentFits false d → document_spelt d ≡ front → DocumentFails true e p d
+FailsAt e p front (s ∷ rest) = (more : List Symbol) (d : Document) → DocumentFits false d → document_spelt d ≡ front ++ (s ∷ more) → DocumentFails true e p d
 
 -- the place of the first character, or the text's end
 abbrev pub place_of : Place → List Symbol → Place
