@@ -1,22 +1,9 @@
 -- A document before its names are resolved: start tags with names as written, and elements of these.
 use Rattle.std.specs.Prelude.{ℕ, List, ◌++◌, Bool, ◌&&◌, bytes_eq}
+pub use Rattle.doc_text.specs.declared.state.Name.{Name}
+pub use Rattle.doc_text.specs.declared.state.Pair.{Pair}
+pub use Rattle.doc_text.specs.declared.state.Start.{Start}
 use Rattle.atl_base.specs.declared.place.Place.{Place}
-
--- a name as written, its prefix empty where it has none
-pub record Name : Type 0 where
-  pub at : Place
-  pub prefix : List ℕ
-  pub local : List ℕ
-
-pub record Pair : Type 0 where
-  pub name : Name
-  pub value : List ℕ
-
--- what a start tag says: the place of its <, the name, and all attributes, declarations among them
-pub record Start : Type 0 where
-  pub at : Place
-  pub name : Name
-  pub pairs : List Pair
 
 abbrev pub called : Place → List ℕ → List ℕ → Name
 called p q n = record { at = p; prefix = q; local = n }

@@ -1,6 +1,12 @@
 -- Where reading stands: what is open, the innermost element first, and what may come next.
 use Rattle.std.specs.Prelude.{ℕ, List, [], ◌∷◌, Bool, Option}
 use Rattle.atl_base.specs.declared.place.Place.{Place}
+pub use Rattle.doc_text.specs.declared.state.Stage.{Stage}
+pub use Rattle.doc_text.specs.declared.state.Stage.TheVariants.{Untold, ToldVersion, ToldEncoding, ToldStanding}
+pub use Rattle.doc_text.specs.declared.state.Clause.{Clause}
+pub use Rattle.doc_text.specs.declared.state.Clause.TheVariants.{OfVersion, OfEncoding, OfStanding}
+pub use Rattle.doc_text.specs.declared.state.Cited.{Cited}
+pub use Rattle.doc_text.specs.declared.state.Cited.TheVariants.{Nameless, ByEntity, Hashed, Decimal, Hexed, Hexadecimal}
 use Rattle.doc_text.specs.Raw.{Name, Start, Tree, Trees, add_text}
 use Rattle.doc_text.specs.Faults.{Fault}
 
@@ -36,28 +42,6 @@ pub data Bearer : Type 0 where
 pub data Citing : Type 0 where
   InText : Open → List Open → Citing
   InValue : Bool → List Open → Start → Name → List ℕ → Citing
-
--- what has been read of a reference
-pub data Cited : Type 0 where
-  Nameless : Cited  -- &
-  ByEntity : List ℕ → Cited
-  Hashed : Cited  -- &#
-  Decimal : ℕ → Cited
-  Hexed : Cited  -- &#x
-  Hexadecimal : ℕ → Cited
-
--- what the declaration has told: nothing, its version, then its encoding, then whether it stands alone
-pub data Stage : Type 0 where
-  Untold : Stage
-  ToldVersion : Stage
-  ToldEncoding : Stage
-  ToldStanding : Stage
-
--- what it is about to tell
-pub data Clause : Type 0 where
-  OfVersion : Clause
-  OfEncoding : Clause
-  OfStanding : Clause
 
 pub data State : Type 0 where
   Beginning : State

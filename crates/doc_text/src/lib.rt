@@ -4,5 +4,6 @@
 pub mod characters;
 pub mod encoding;
 pub mod laws;
+pub mod state;
 pub mod symbol;
 pub mod tree;
