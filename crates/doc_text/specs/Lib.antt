@@ -12,3 +12,4 @@ pub mod Laws
 pub mod Encodings
 pub mod Characters
 pub mod Reading
+pub mod Answers

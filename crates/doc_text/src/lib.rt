@@ -4,6 +4,7 @@
 pub mod characters;
 pub mod encoding;
 pub mod laws;
+pub mod refusal;
 pub mod state;
 pub mod symbol;
 pub mod tree;
