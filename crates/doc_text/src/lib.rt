@@ -1,7 +1,14 @@
-//! Documents: the trees of the XML profile that models, metamodels and code files are written in.
+//! Documents: the trees of the XML profile that models, metamodels and code files are written in, what a document is, and
+//! how one is written.
 #![tactic(auto)]
 
+pub mod characters;
+pub mod encoding;
 mod escape;
+pub mod laws;
+pub mod refusal;
+pub mod state;
+pub mod symbol;
 pub mod tree;
 mod write;
 
