@@ -1,0 +1,4 @@
+//! Metamodels: packages, classes, features and enumerations after Ecore, and look-ups of what a class inherits.
+#![tactic(auto)]
+
+pub mod parts;
