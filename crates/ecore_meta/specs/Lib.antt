@@ -1,3 +1,4 @@
 pub mod Inheritance
 pub mod Names
+pub mod Order
 pub mod Valid

@@ -1,4 +1,5 @@
 //! Metamodels: packages, classes, features and enumerations after Ecore, and look-ups of what a class inherits.
 #![tactic(auto)]
 
+mod order;
 pub mod parts;
