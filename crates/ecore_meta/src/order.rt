@@ -57,3 +57,44 @@ fn step(classes: &[Class], class: usize, walk: &mut Walk) -> Result<(), AllocErr
     }
     Ok(())
 }
+
+// Does a class, and before it all that it inherits from.
+fn climb(classes: &[Class], class: usize, walk: &mut Walk) -> Result<(), AllocError>
+    requires acyclic { IsAcyclic classes.now }
+    requires within { AreWithin classes.now }
+    requires class { class < length classes.now }
+    requires walk { IsWalk classes.now walk.old.done.items walk.old.next.items walk.old.path.items walk.old.order.items }
+    requires empty { walk.old.path.items ≡ [] }
+    requires undone { is_done walk.old.done.items class ≡ false }
+    ensures walk { OnOk result (IsWalk classes.now walk.new.done.items walk.new.next.items walk.new.path.items walk.new.order.items) }
+    ensures empty { OnOk result (walk.new.path.items ≡ []) }
+    ensures class { OnOk result (is_done walk.new.done.items class ≡ true) }
+    ensures kept { OnOk result ((c : ℕ) → is_done walk.old.done.items c ≡ true → is_done walk.new.done.items c ≡ true) }
+{
+    walk.path.push(class)?;
+    'climb: while let Some(&last) = walk.path.last() {
+        step(classes, last, walk)?;
+    }
+    Ok(())
+}
+
+// The places of the classes, each after those of its supertypes.
+pub(crate) fn supers_first(alloc: Global, classes: &[Class]) -> Result<Vec<usize>, AllocError>
+    requires acyclic { IsAcyclic classes.now }
+    requires within { AreWithin classes.now }
+    ensures { IfOk result (λ order. IsSupersFirst classes.now order.items) }
+{
+    let count = classes.len();
+    let mut walk = Walk {
+        done: vec![in alloc; false; count]?,
+        next: vec![in alloc; 0; count]?,
+        path: Vec::new(alloc),
+        order: Vec::with_capacity(alloc, count)?,
+    };
+    for class in 0..count {
+        if !walk.done[class] {
+            climb(classes, class, &mut walk)?;
+        }
+    }
+    Ok(walk.order)
+}
