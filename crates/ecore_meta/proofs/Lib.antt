@@ -1,3 +1,5 @@
 pub mod Climbs
+pub mod Distinct
 pub mod FeatureLaws
+pub mod TableLaws
 pub mod Walks

@@ -1,5 +1,6 @@
 //! Metamodels: packages, classes, features and enumerations after Ecore, and look-ups of what a class inherits.
 #![tactic(auto)]
 
+mod inherited;
 mod order;
 pub mod parts;
