@@ -1,5 +1,6 @@
 pub mod Climbs
 pub mod Distinct
 pub mod FeatureLaws
+pub mod NameLaws
 pub mod TableLaws
 pub mod Walks

@@ -5,6 +5,7 @@ use Rattle.std.specs.Option.{option_map_or}
 use Rattle.atl_base.specs.declared.numbers.ClassId.{ClassId}
 use Rattle.atl_base.specs.declared.numbers.FeatId.{FeatId}
 use Rattle.ecore_meta.specs.declared.parts.Class.{Class}
+use Rattle.ecore_meta.specs.declared.parts.Feature.{Feature}
 
 -- the direct supertypes of a class, and the features that it declares
 abbrev pub supers_of : List Class → ClassId → List ClassId
@@ -42,3 +43,7 @@ features classes c = features_within (length classes) classes c
 abbrev pub IsFeaturesLaw : List Class → Type 0
 IsFeaturesLaw classes = (c : ClassId) → c.0 < length classes →
     features classes c ≡ distinct (flat_map (features classes) (supers_of classes c)) ++ own_of classes c
+
+-- the name of a feature
+abbrev pub name_of : List Feature → FeatId → List ℕ
+name_of features f = option_map_or (λ feature. feature.name) (slice_get features f.0) []

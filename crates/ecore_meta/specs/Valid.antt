@@ -10,19 +10,16 @@ use Rattle.ecore_meta.specs.declared.parts.Parts.{Parts}
 use Rattle.ecore_meta.specs.declared.parts.Feature.{Feature}
 use Rattle.ecore_meta.specs.declared.parts.FeatKind.{FeatKind}
 use Rattle.ecore_meta.specs.declared.parts.FeatKind.TheVariants.{Str, Int, Truth, Enum, Opaque, Refer}
-use Rattle.ecore_meta.specs.Inheritance.{IsAcyclic, supers_of, own_of, features}
+use Rattle.ecore_meta.specs.Inheritance.{IsAcyclic, supers_of, own_of, features, name_of}
 use Rattle.ecore_meta.specs.Names.{IsName, IsPrefix, IsUri, HasNoDot}
 
 -- no two are the same
 abbrev pub AllDiffer : {X : Type 0} → List X → Type 0
 AllDiffer xs = AllPairs (λ x y. x ≢ y) xs
 
--- the owner of a feature, and its name
-abbrev pub owner_of : Parts → FeatId → Option ClassId
-owner_of m f = option_map (λ feature. feature.owner) (slice_get m.features f.0)
-
-abbrev pub name_of : Parts → FeatId → List ℕ
-name_of m f = option_map_or (λ feature. feature.name) (slice_get m.features f.0) []
+-- the owner of a feature
+abbrev pub owner_of : List Feature → FeatId → Option ClassId
+owner_of features f = option_map (λ feature. feature.owner) (slice_get features f.0)
 
 -- ## Texts of a type
 
@@ -102,10 +99,10 @@ pub record IsMetamodel (m : Parts) : Type 0 where
   -- no class is its own proper supertype
   pub acyclic : IsAcyclic m.classes
   -- each feature is among its owner's own, once, and among no others'
-  pub owners : (c : ClassId) (f : FeatId) → Contains (own_of m.classes c) f ↔ (owner_of m f ≡ Some c)
+  pub owners : (c : ClassId) (f : FeatId) → Contains (own_of m.classes c) f ↔ (owner_of m.features f ≡ Some c)
   pub own_differ : (c : ClassId) → AllDiffer (own_of m.classes c)
   -- the features that are seen in one class differ in name
-  pub seen_differ : (c : ClassId) → c.0 < length m.classes → AllDiffer (map (name_of m) (features m.classes c))
+  pub seen_differ : (c : ClassId) → c.0 < length m.classes → AllDiffer (map (name_of m.features) (features m.classes c))
   -- the default of an attribute is a text of its type
   pub defaults : All (λ f. is_reference f.kind ≡ false → IfSome f.default (IsTextOf m f.kind)) m.features
   -- opposites name each other and fit, and do not both contain

@@ -2,5 +2,6 @@
 #![tactic(auto)]
 
 mod inherited;
+mod names;
 mod order;
 pub mod parts;
