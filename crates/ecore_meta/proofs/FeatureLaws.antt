@@ -1,12 +1,14 @@
 -- The features of a class are those of its supertypes and its own: more room above a class changes nothing.
-use Rattle.std.proofs.Common.{◌≡◌, ℕ, zero, suc, ◌+◌, ◌<◌, ◌≤◌, List, [], ◌∷◌, ◌++◌, length, get_or, refl, sym, ap, subst, ◌∙◌, arith}
+use Rattle.std.proofs.Common.{◌≡◌, ℕ, zero, suc, ◌+◌, ◌<◌, ◌≤◌, List, [], ◌∷◌, ◌++◌, length, get_or, refl, sym, ap, subst, ◌∙◌, ⊎_elim, arith, ◌⊎◌}
 use Rattle.std.proofs.lemmas.List.{length_push, get_or_push}
+use Rattle.std.proofs.lemmas.List.Elements.{Contains-append_left, Contains-append_right, Contains-append_cases}
 use Rattle.std.specs.List.{Contains, flat_map}
 use Rattle.atl_base.specs.declared.numbers.ClassId.{ClassId}
 use Rattle.atl_base.specs.declared.numbers.FeatId.{FeatId}
 use Rattle.ecore_meta.specs.declared.parts.Class.{Class}
-use Rattle.ecore_meta.specs.Inheritance.{supers_of, own_of, IsAcyclic, distinct, features_within, features, IsFeaturesLaw}
+use Rattle.ecore_meta.specs.Inheritance.{supers_of, own_of, Conforms, itself, by_super, IsAcyclic, distinct, features_within, features, IsFeaturesLaw, IsSeenLaw}
 use Rattle.ecore_meta.specs.Order.{class_no, HasSuper, IsClimb, AreWithin}
+use Rattle.ecore_meta.proofs.Membership.{Contains-from_flat_map, Contains-flat_map, Contains-from_distinct, Contains-distinct}
 use Rattle.ecore_meta.proofs.Climbs.{IsClimb-one, IsClimb-push, length-climb}
 
 -- two functions that agree at each element
@@ -36,3 +38,28 @@ module _ (classes : List Class) (acyclic : IsAcyclic classes) (within : AreWithi
   pub features-is : IsFeaturesLaw classes
   unfolding features features_within
   features-is c h = same_features (length classes) (suc (length classes)) [] c.0 (IsClimb-one classes c.0 h) (omega arith) (omega arith)
+
+  -- what is seen in a class is declared by one that it conforms to
+  declared_by : (n : ℕ) (c : ClassId) (f : FeatId) → Contains (features_within n classes c) f → (d : ClassId) × Conforms classes c d × Contains (own_of classes d) f
+  unfolding features_within
+  declared_by zero c f m = absurd (omega (arith, m.1))
+  declared_by (suc n) c f m = ⊎_elim
+      (λ (above : Contains (distinct (flat_map (features_within n classes) (supers_of classes c))) f).
+          let r = Contains-from_flat_map (features_within n classes) (supers_of classes c) f (Contains-from_distinct (flat_map (features_within n classes) (supers_of classes c)) f above) in
+          let from = declared_by n r.0 f r.2 in
+          (from.0, by_super r.1 from.1, from.2))
+      (λ (own : Contains (own_of classes c) f). (c, itself, own))
+      (Contains-append_cases (distinct (flat_map (features_within n classes) (supers_of classes c))) (own_of classes c) f m)
+
+  -- and the other way round
+  seen_from : {c d : ClassId} (f : FeatId) → Conforms classes c d → c.0 < length classes → Contains (own_of classes d) f → Contains (features classes c) f
+  seen_from {c} f itself h m =
+      subst (λ l. Contains l f) (sym (features-is c h)) (Contains-append_right (distinct (flat_map (features classes) (supers_of classes c))) (own_of classes c) f m)
+  seen_from {c} f (by_super {s = s} up rest) h m =
+      subst (λ l. Contains l f) (sym (features-is c h)) (Contains-append_left (distinct (flat_map (features classes) (supers_of classes c))) (own_of classes c) f
+          (Contains-distinct (flat_map (features classes) (supers_of classes c)) f
+              (Contains-flat_map (features classes) (supers_of classes c) s f up (seen_from f rest (within c s up) m))))
+
+  pub seen-is : IsSeenLaw classes
+  unfolding features
+  seen-is c f h = (declared_by (length classes) c f, λ r. seen_from f r.1 h r.2)

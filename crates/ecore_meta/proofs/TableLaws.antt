@@ -19,6 +19,7 @@ use Rattle.atl_base.specs.declared.numbers.FeatId.{FeatId}
 use Rattle.ecore_meta.specs.declared.parts.Class.{Class}
 use Rattle.ecore_meta.specs.Inheritance.{supers_of, own_of, Conforms, itself, by_super, IsAcyclic, distinct, features}
 use Rattle.ecore_meta.specs.Order.{class_no, HasSuper, AreWithin, IsSupersFirst}
+use Rattle.ecore_meta.proofs.Membership.{head_or, Contains-from_flat_map, Contains-flat_map}
 use Rattle.ecore_meta.proofs.Walks.{supers_at}
 use Rattle.ecore_meta.proofs.FeatureLaws.{flat_map-agree, features-is}
 
@@ -57,26 +58,6 @@ features_row classes rows order i acyclic within o inside each d row e =
         ∙ sym (features-is classes acyclic within (class_no c) here)
 
 -- ---- conformance
-head_or : {X : Type 0} (x : X) (xs : List X) (y : X) (k : ℕ) → k < length (x ∷ xs) → get_or (x ∷ xs) k y ≡ y → (x ≡ y) ⊎ Contains xs y
-head_or x xs y zero h e = inl e
-head_or x xs y (suc k) h e = inr (k, omega arith, e)
-
-Contains-from_flat_map : {X A : Type 0} (f : X → List A) (xs : List X) (y : A) → Contains (flat_map f xs) y → (x : X) × Contains xs x × Contains (f x) y
-Contains-from_flat_map f [] y m = absurd (omega (arith, m.1))
-Contains-from_flat_map f (x ∷ xs) y m = ⊎_elim
-    (λ (here : Contains (f x) y). (x, (0, omega arith, refl), here))
-    (λ (later : Contains (flat_map f xs) y).
-        let r = Contains-from_flat_map f xs y later in
-        (r.0, (suc r.1.0, omega (arith, r.1.1), r.1.2), r.2))
-    (Contains-append_cases (f x) (flat_map f xs) y m)
-
-Contains-flat_map : {X A : Type 0} (f : X → List A) (xs : List X) (x : X) (y : A) → Contains xs x → Contains (f x) y → Contains (flat_map f xs) y
-Contains-flat_map f [] x y m h = absurd (omega (arith, m.1))
-Contains-flat_map f (z ∷ xs) x y m h = ⊎_elim
-    (λ (here : z ≡ x). Contains-append_left (f z) (flat_map f xs) y (subst (λ w. Contains (f w) y) (sym here) h))
-    (λ (later : Contains xs x). Contains-append_right (f z) (flat_map f xs) y (Contains-flat_map f xs x y later h))
-    (head_or z xs x m.0 m.1 m.2)
-
 -- the last step of a conformance: none, or a supertype
 last_step : {classes : List Class} {c d : ClassId} → Conforms classes c d → (c ≡ d) ⊎ ((s : ClassId) × Contains (supers_of classes c) s × Conforms classes s d)
 last_step itself = inl refl

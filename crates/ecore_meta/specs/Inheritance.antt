@@ -1,6 +1,6 @@
 -- What a class inherits: the classes that it conforms to, and the features that are seen in it.
 -- (Ecore: EClass, eSuperTypes, eAllSuperTypes and eAllStructuralFeatures.)
-use Rattle.std.specs.Prelude.{◌≡◌, ℕ, zero, suc, ◌<◌, ◌==◌, not, List, [], ◌∷◌, ◌++◌, length, slice_get, Contains, filter, flat_map}
+use Rattle.std.specs.Prelude.{◌↔◌, ◌≡◌, ℕ, zero, suc, ◌<◌, ◌==◌, not, List, [], ◌∷◌, ◌++◌, length, slice_get, Contains, filter, flat_map}
 use Rattle.std.specs.Option.{option_map_or}
 use Rattle.atl_base.specs.declared.numbers.ClassId.{ClassId}
 use Rattle.atl_base.specs.declared.numbers.FeatId.{FeatId}
@@ -43,6 +43,11 @@ features classes c = features_within (length classes) classes c
 abbrev pub IsFeaturesLaw : List Class → Type 0
 IsFeaturesLaw classes = (c : ClassId) → c.0 < length classes →
     features classes c ≡ distinct (flat_map (features classes) (supers_of classes c)) ++ own_of classes c
+
+-- what is seen in a class is what the classes declare that it conforms to
+abbrev pub IsSeenLaw : List Class → Type 0
+IsSeenLaw classes = (c : ClassId) (f : FeatId) → c.0 < length classes →
+    Contains (features classes c) f ↔ ((d : ClassId) × Conforms classes c d × Contains (own_of classes d) f)
 
 -- the name of a feature
 abbrev pub name_of : List Feature → FeatId → List ℕ

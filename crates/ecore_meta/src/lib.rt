@@ -2,6 +2,7 @@
 #![tactic(auto)]
 
 mod inherited;
+pub mod metamodel;
 mod names;
 mod order;
 pub mod parts;
