@@ -1,5 +1,5 @@
 -- A list of features that keeps each where it stands first, grown at its end.
-use Rattle.std.proofs.Common.{◌≡◌, ℕ, ◌+◌, ◌<◌, ◌||◌, Bool, true, false, not, cond, eqb, List, [], ◌∷◌, ◌++◌, length, get_or, take, refl, sym, ap, ◌∙◌, append_assoc}
+use Rattle.std.proofs.Common.{◌≡◌, ℕ, ◌+◌, ◌<◌, ◌||◌, Bool, true, false, not, cond, eqb, List, [], ◌∷◌, ◌++◌, length, get_or, take, refl, sym, ap, ◌∙◌}
 use Rattle.std.proofs.lemmas.Bool.{ne_eqb, eqb-true, eqb-false, true≢false, eq-eqb}
 use Rattle.std.proofs.lemmas.List.{append-nil, take_more, flat_map_more}
 use Rattle.std.proofs.lemmas.List.Elements.{filter-append}
@@ -34,28 +34,30 @@ module _ (f : FeatId) (test : FeatId → Bool) (tells : (g : FeatId) → test g 
     where
       others : FeatId → Bool
       others = λ g. not (eqb g.0 x.0)
+
       seen : List FeatId
       seen = distinct xs
+
       by : (b : Bool) → test x ≡ b → x ∷ filter others (distinct (xs ++ f ∷ [])) ≡ x ∷ filter others (cond (list_any test seen) seen (seen ++ f ∷ []))
           → x ∷ filter others (distinct (xs ++ f ∷ [])) ≡ cond (test x || list_any test (filter others seen)) (x ∷ filter others seen) (x ∷ filter others seen ++ f ∷ [])
       by true e first =
           let same : f.0 ≡ x.0 = eqb-true f.0 x.0 (sym (tells x) ∙ e) in
           let out : others f ≡ false = ap not (eq-eqb f.0 x.0 same) in
           let dropped : filter others (seen ++ f ∷ []) ≡ filter others seen =
-              filter-append others seen (f ∷ []) ∙ ap (λ b. filter others seen ++ cond b (f ∷ []) []) out ∙ append-nil (filter others seen) in
+          filter-append others seen (f ∷ []) ∙ ap (λ b. filter others seen ++ cond b (f ∷ []) []) out ∙ append-nil (filter others seen) in
           first ∙ ap (λ l. x ∷ l) (in_both others seen (seen ++ f ∷ []) (list_any test seen) dropped)
-              ∙ ap (λ b. cond (b || list_any test (filter others seen)) (x ∷ filter others seen) (x ∷ filter others seen ++ f ∷ [])) (sym e)
+          ∙ ap (λ b. cond (b || list_any test (filter others seen)) (x ∷ filter others seen) (x ∷ filter others seen ++ f ∷ [])) (sym e)
       by false e first =
           let apart : eqb f.0 x.0 ≡ false = sym (tells x) ∙ e in
           let stays : others f ≡ true = ap not apart in
           let kept : filter others (seen ++ f ∷ []) ≡ filter others seen ++ f ∷ [] =
-              filter-append others seen (f ∷ []) ∙ ap (λ b. filter others seen ++ cond b (f ∷ []) []) stays in
+          filter-append others seen (f ∷ []) ∙ ap (λ b. filter others seen ++ cond b (f ∷ []) []) stays in
           let found : list_any test (filter others seen) ≡ list_any test seen = list_any-filter test others (λ g t.
-              let same : f.0 ≡ g.0 = eqb-true f.0 g.0 (sym (tells g) ∙ t) in
-              ap not (ne_eqb g.0 x.0 (λ k. eqb-false f.0 x.0 apart (same ∙ k)))) seen in
+          let same : f.0 ≡ g.0 = eqb-true f.0 g.0 (sym (tells g) ∙ t) in
+          ap not (ne_eqb g.0 x.0 (λ k. eqb-false f.0 x.0 apart (same ∙ k)))) seen in
           first ∙ in_each others x f seen (seen ++ f ∷ []) (list_any test seen) kept
-              ∙ ap (λ b. cond b (x ∷ filter others seen) (x ∷ filter others seen ++ f ∷ [])) (sym found)
-              ∙ ap (λ b. cond (b || list_any test (filter others seen)) (x ∷ filter others seen) (x ∷ filter others seen ++ f ∷ [])) (sym e)
+          ∙ ap (λ b. cond b (x ∷ filter others seen) (x ∷ filter others seen ++ f ∷ [])) (sym found)
+          ∙ ap (λ b. cond (b || list_any test (filter others seen)) (x ∷ filter others seen) (x ∷ filter others seen ++ f ∷ [])) (sym e)
 
   -- the same of a set that keeps its items in order
   pub distinct_more : (xs old new : List FeatId) → old ≡ distinct xs → new ≡ cond (list_any test old) old (old ++ f ∷ []) → new ≡ distinct (xs ++ f ∷ [])

@@ -1,5 +1,5 @@
 -- The features of a class are those of its supertypes and its own: more room above a class changes nothing.
-use Rattle.std.proofs.Common.{◌≡◌, ℕ, zero, suc, ◌+◌, ◌<◌, ◌≤◌, List, [], ◌∷◌, ◌++◌, length, get_or, refl, sym, ap, subst, ◌∙◌, ⊎_elim, arith, ◌⊎◌}
+use Rattle.std.proofs.Common.{◌≡◌, ℕ, zero, suc, ◌+◌, ◌<◌, List, [], ◌∷◌, ◌++◌, length, refl, sym, ap, subst, ⊎_elim, arith}
 use Rattle.std.proofs.lemmas.List.{length_push, get_or_push}
 use Rattle.std.proofs.lemmas.List.Elements.{Contains-append_left, Contains-append_right, Contains-append_cases}
 use Rattle.std.specs.List.{Contains, flat_map}
@@ -27,12 +27,12 @@ module _ (classes : List Class) (acyclic : IsAcyclic classes) (within : AreWithi
   same_features (suc a) zero path c p h k = absurd (omega (arith, length-climb classes (path ++ c ∷ []) acyclic p))
   same_features (suc a) (suc b) path c p h k =
       let above : flat_map (features_within a classes) (supers_of classes (class_no c)) ≡ flat_map (features_within b classes) (supers_of classes (class_no c)) =
-          flat_map-agree (features_within a classes) (features_within b classes) (supers_of classes (class_no c)) (λ s m.
-              same_features a b (path ++ c ∷ []) s.0
-                  (IsClimb-push classes (path ++ c ∷ []) s.0 p (within (class_no c) s m)
-                      (λ i e. subst (λ n. HasSuper classes n s.0) (sym (get_or_push path c 0 i (omega (arith, length_push path c)))) m))
-                  (omega (arith, length_push (path ++ c ∷ []) s.0))
-                  (omega (arith, length_push (path ++ c ∷ []) s.0))) in
+      flat_map-agree (features_within a classes) (features_within b classes) (supers_of classes (class_no c)) (λ s m.
+      same_features a b (path ++ c ∷ []) s.0
+      (IsClimb-push classes (path ++ c ∷ []) s.0 p (within (class_no c) s m)
+      (λ i e. subst (λ n. HasSuper classes n s.0) (sym (get_or_push path c 0 i (omega (arith, length_push path c)))) m))
+      (omega (arith, length_push (path ++ c ∷ []) s.0))
+      (omega (arith, length_push (path ++ c ∷ []) s.0))) in
       ap (λ l. distinct l ++ own_of classes (class_no c)) above
 
   pub features-is : IsFeaturesLaw classes
@@ -45,9 +45,9 @@ module _ (classes : List Class) (acyclic : IsAcyclic classes) (within : AreWithi
   declared_by zero c f m = absurd (omega (arith, m.1))
   declared_by (suc n) c f m = ⊎_elim
       (λ (above : Contains (distinct (flat_map (features_within n classes) (supers_of classes c))) f).
-          let r = Contains-from_flat_map (features_within n classes) (supers_of classes c) f (Contains-from_distinct (flat_map (features_within n classes) (supers_of classes c)) f above) in
-          let from = declared_by n r.0 f r.2 in
-          (from.0, by_super r.1 from.1, from.2))
+      let r = Contains-from_flat_map (features_within n classes) (supers_of classes c) f (Contains-from_distinct (flat_map (features_within n classes) (supers_of classes c)) f above) in
+      let from = declared_by n r.0 f r.2 in
+      (from.0, by_super r.1 from.1, from.2))
       (λ (own : Contains (own_of classes c) f). (c, itself, own))
       (Contains-append_cases (distinct (flat_map (features_within n classes) (supers_of classes c))) (own_of classes c) f m)
 
@@ -57,8 +57,8 @@ module _ (classes : List Class) (acyclic : IsAcyclic classes) (within : AreWithi
       subst (λ l. Contains l f) (sym (features-is c h)) (Contains-append_right (distinct (flat_map (features classes) (supers_of classes c))) (own_of classes c) f m)
   seen_from {c} f (by_super {s = s} up rest) h m =
       subst (λ l. Contains l f) (sym (features-is c h)) (Contains-append_left (distinct (flat_map (features classes) (supers_of classes c))) (own_of classes c) f
-          (Contains-distinct (flat_map (features classes) (supers_of classes c)) f
-              (Contains-flat_map (features classes) (supers_of classes c) s f up (seen_from f rest (within c s up) m))))
+      (Contains-distinct (flat_map (features classes) (supers_of classes c)) f
+      (Contains-flat_map (features classes) (supers_of classes c) s f up (seen_from f rest (within c s up) m))))
 
   pub seen-is : IsSeenLaw classes
   unfolding features

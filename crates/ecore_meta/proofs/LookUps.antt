@@ -1,7 +1,7 @@
 -- What the tables answer, and that those of a metamodel are right.
-use Rattle.std.proofs.Common.{◌≡◌, ◌≢◌, ℕ, ◌<◌, ◌≤◌, ◌⊎◌, Bool, true, false, List, [], length, get_or, map, refl, sym, ap, subst, ◌∙◌, ⊎_elim, arith, Option, Some, None, Result, Ok, Err}
-use Rattle.std.specs.Prelude.{◌↔◌, IsTrue, is_ok, IfSome, IfNone, IsSome, is_some, nat_eq, slice_index, slice_index_or}
-use Rattle.std.proofs.lemmas.Bool.{cases_lt, cases_eq, false≢true}
+use Rattle.std.proofs.Common.{◌≡◌, ◌≢◌, ℕ, ◌<◌, ◌≤◌, List, [], length, get_or, map, refl, sym, ap, subst, ◌∙◌, ⊎_elim, arith, Option, Some, None, Result, Ok, Err}
+use Rattle.std.specs.Prelude.{◌↔◌, IsTrue, is_ok, IfSome, IfNone, is_some, nat_eq, slice_index, slice_index_or}
+use Rattle.std.proofs.lemmas.Bool.{cases_lt, false≢true}
 use Rattle.std.proofs.lemmas.List.{get_or_default, get_or_past, get_or-map, length-map}
 use Rattle.std.proofs.lemmas.List.Elements.{Contains-get_or}
 use Rattle.std.proofs.lemmas.List.Sorted.{searched}
@@ -34,13 +34,15 @@ found_is xs d (Ok i) rising h =
     let at = searched xs d (Ok i) h (not_falling xs rising) in
     (λ t. (i, at.0, get_or_default xs i d 0 at.0 ∙ at.1), λ m. refl)
 found_is xs d (Err i) rising h =
-    let at = searched xs d (Err i) h (not_falling xs rising) in
-    (λ t. absurd (false≢true t), λ m.
-        let here : get_or xs m.0 0 ≡ d = get_or_default xs m.0 0 d m.1 ∙ m.2 in
-        absurd (⊎_elim
-            (λ (before : m.0 < i). let lower : get_or xs m.0 0 < d = at.1 m.0 before in let no : ⊥ = omega arith in no)
-            (λ (after : i ≤ m.0). let higher : d < get_or xs m.0 0 = at.2 m.0 after m.1 in let no : ⊥ = omega arith in no)
-            (cases_lt m.0 i)))
+    let at = searched xs d (Err i) h (not_falling xs rising) in (
+      λ t. absurd (false≢true t),
+      λ m.
+          let here : get_or xs m.0 0 ≡ d = get_or_default xs m.0 0 d m.1 ∙ m.2 in
+          absurd (⊎_elim
+          (λ (before : m.0 < i). let lower : get_or xs m.0 0 < d = at.1 m.0 before in let no : ⊥ = omega arith in no)
+          (λ (after : i ≤ m.0). let higher : d < get_or xs m.0 0 = at.2 m.0 after m.1 in let no : ⊥ = omega arith in no)
+          (cases_lt m.0 i)),
+    )
 
 pub conforms_is : (classes : List Class) (lists : List (List ℕ)) (c d : ℕ) (r : Result ℕ ℕ) → AreConformed classes lists → c < length classes
     → IsBinarySearchResult (λ y. nat_cmp y d) (get_or lists c []) r → IsTrue (is_ok r) ↔ Conforms classes (class_no c) (class_no d)
@@ -77,9 +79,9 @@ module _ (m : Parts) (valid : IsMetamodel m) (lists : List (List FeatId)) (told 
   seen_within c f k = ⊎_elim
       (λ (here : c < length m.classes). features_within (class_no c) f here (subst (λ (l : List FeatId). Contains l f) (told.each c here) k))
       (λ (past : length m.classes ≤ c).
-          let none : get_or lists c [] ≡ [] = get_or_past lists c [] (omega (arith, told.lengths)) in
-          let inside : Contains [] f = subst (λ (l : List FeatId). Contains l f) none k in
-          absurd (omega (arith, inside.1)))
+      let none : get_or lists c [] ≡ [] = get_or_past lists c [] (omega (arith, told.lengths)) in
+      let inside : Contains [] f = subst (λ (l : List FeatId). Contains l f) none k in
+      absurd (omega (arith, inside.1)))
       (cases_lt c (length m.classes))
 
   module _ (firsts : Firsts) (places : List ℕ) (names : AreFirsts m.features firsts) (of : ArePlacesOf m.features firsts places) where
@@ -87,8 +89,8 @@ module _ (m : Parts) (valid : IsMetamodel m) (lists : List (List FeatId)) (told 
     same_name : (f g : FeatId) → f.0 < length m.features → g.0 < length m.features → slice_index places f.0 ≡ slice_index places g.0 → name_of m.features f ≡ name_of m.features g
     same_name f g h k e =
         sym (names.bears (name_of m.features f) (slice_index places f.0) (of.each f h)).1
-            ∙ ap (λ n. name_of m.features (record { 0 = n })) e
-            ∙ (names.bears (name_of m.features g) (slice_index places g.0) (of.each g k)).1
+        ∙ ap (λ n. name_of m.features (record { 0 = n })) e
+        ∙ (names.bears (name_of m.features g) (slice_index places g.0) (of.each g k)).1
 
     pub places_differ : (c : ℕ) → AllDiffer (map (λ f. slice_index places f.0) (get_or lists c []))
     places_differ c i j d low high same =
@@ -99,29 +101,29 @@ module _ (m : Parts) (valid : IsMetamodel m) (lists : List (List FeatId)) (told 
         let i_in : i < length seen = omega arith in
         let one : place (get_or seen i none) ≡ place (get_or seen j none) = sym (get_or-map place seen i none d i_in) ∙ same ∙ get_or-map place seen j none d j_in in
         let names_same : name_of m.features (get_or seen i none) ≡ name_of m.features (get_or seen j none) =
-            same_name (get_or seen i none) (get_or seen j none) (seen_within c _ (Contains-get_or seen i none i_in)) (seen_within c _ (Contains-get_or seen j none j_in)) one in
+        same_name (get_or seen i none) (get_or seen j none) (seen_within c _ (Contains-get_or seen i none i_in)) (seen_within c _ (Contains-get_or seen j none j_in)) one in
         ⊎_elim
-            (λ (here : c < length m.classes).
-                let differ : AllDiffer (map (name_of m.features) seen) = subst (λ (l : List FeatId). AllDiffer (map (name_of m.features) l)) (sym (told.each c here)) (valid.seen_differ (class_no c) here) in
-                differ i j [] low (omega (arith, j_in, length-map seen (name_of m.features)))
-                    (get_or-map (name_of m.features) seen i none [] i_in ∙ names_same ∙ sym (get_or-map (name_of m.features) seen j none [] j_in)))
-            (λ (past : length m.classes ≤ c).
-                let none_there : get_or lists c [] ≡ [] = get_or_past lists c [] (omega (arith, told.lengths)) in
-                let no : ⊥ = omega (arith, j_in, ap length none_there) in no)
-            (cases_lt c (length m.classes))
+        (λ (here : c < length m.classes).
+        let differ : AllDiffer (map (name_of m.features) seen) = subst (λ (l : List FeatId). AllDiffer (map (name_of m.features) l)) (sym (told.each c here)) (valid.seen_differ (class_no c) here) in
+        differ i j [] low (omega (arith, j_in, length-map seen (name_of m.features)))
+        (get_or-map (name_of m.features) seen i none [] i_in ∙ names_same ∙ sym (get_or-map (name_of m.features) seen j none [] j_in)))
+        (λ (past : length m.classes ≤ c).
+        let none_there : get_or lists c [] ≡ [] = get_or_past lists c [] (omega (arith, told.lengths)) in
+        let no : ⊥ = omega (arith, j_in, ap length none_there) in no)
+        (cases_lt c (length m.classes))
 
     pub named_is : (rows : List Row) → length rows ≡ length lists → ((c : ℕ) (d : Row) → c < length lists → IsRow places (slice_index_or lists c []) (slice_index_or rows c d)) → AreNamedRows m.classes m.features firsts rows
     named_is rows lengths each = record {
-        lengths = lengths ∙ told.lengths;
-        each = λ c d h.
-            let row = each c d (omega (arith, h, told.lengths)) in
-            let same : get_or lists c [] ≡ features m.classes (class_no c) = told.each c h in
-            record {
-              found = λ i f k.
-                  let at = row.found i f k in
-                  (subst (λ (l : List FeatId). Contains l f) same at.0, of.each f (seen_within c f at.0) ∙ ap Some at.1);
-              each = λ i f k leads.
-                  let here : Contains (get_or lists c []) f = subst (λ (l : List FeatId). Contains l f) (sym same) k in
-                  subst (λ n. get nat_eq (get_or rows c d) n ≡ Some f) (same_Some (slice_index places f.0) i (sym (of.each f (seen_within c f here)) ∙ leads)) (row.each f here);
-            };
-      }
+      lengths = lengths ∙ told.lengths;
+      each = λ c d h.
+          let row = each c d (omega (arith, h, told.lengths)) in
+          let same : get_or lists c [] ≡ features m.classes (class_no c) = told.each c h in
+          record {
+            found = λ i f k.
+                let at = row.found i f k in
+                (subst (λ (l : List FeatId). Contains l f) same at.0, of.each f (seen_within c f at.0) ∙ ap Some at.1);
+            each = λ i f k leads.
+                let here : Contains (get_or lists c []) f = subst (λ (l : List FeatId). Contains l f) (sym same) k in
+                subst (λ n. get nat_eq (get_or rows c d) n ≡ Some f) (same_Some (slice_index places f.0) i (sym (of.each f (seen_within c f here)) ∙ leads)) (row.each f here);
+          };
+    }

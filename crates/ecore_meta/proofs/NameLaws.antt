@@ -1,5 +1,5 @@
 -- The tables of names, grown by one feature.
-use Rattle.std.proofs.Common.{◌≡◌, ◌≢◌, ℕ, ◌+◌, ◌<◌, ◌≤◌, ◌⊎◌, Bool, true, false, cond, List, [], ◌∷◌, ◌++◌, length, get_or, take, map, refl, sym, ap, subst, ◌∙◌, inl, inr, ⊎_elim, arith, Option, Some, None}
+use Rattle.std.proofs.Common.{◌≡◌, ◌≢◌, ℕ, ◌+◌, ◌<◌, ◌⊎◌, Bool, true, false, cond, List, [], ◌∷◌, ◌++◌, length, get_or, take, map, refl, sym, ap, subst, ◌∙◌, inl, inr, ⊎_elim, arith, Option, Some, None}
 use Rattle.std.specs.Prelude.{nat_eq, slice_index}
 use Rattle.std.proofs.lemmas.Bool.{cases_eq, eq-eqb, ne_eqb}
 use Rattle.std.proofs.lemmas.List.{take_more, get_or-take, length-take-le, get_or-map, length-map}
@@ -45,29 +45,30 @@ module _ (places : List ℕ) (seen : List FeatId) (i : ℕ) (d : FeatId) (inside
       let k : ℕ = m.0 in
       let below : k < i = omega (arith, m.1, length-take-le i seen (omega arith)) in
       let at_k : get_or (map (λ f. slice_index places f.0) seen) k 0 ≡ slice_index places f.0 =
-          get_or-map (λ f. slice_index places f.0) seen k f 0 (omega arith) ∙ ap (λ f. slice_index places f.0) (sym (get_or-take i seen k f below) ∙ m.2) in
+      get_or-map (λ f. slice_index places f.0) seen k f 0 (omega arith) ∙ ap (λ f. slice_index places f.0) (sym (get_or-take i seen k f below) ∙ m.2) in
       let at_i : get_or (map (λ f. slice_index places f.0) seen) i 0 ≡ slice_index places (get_or seen i d).0 = get_or-map (λ f. slice_index places f.0) seen i d 0 inside in
       differ k i 0 below (omega (arith, length-map seen (λ f. slice_index places f.0))) (at_k ∙ sym e ∙ sym at_i)
 
   pub IsRow-more : (old new : Row) → Updates nat_eq old new (slice_index places (get_or seen i d).0) (Some (get_or seen i d)) → IsRow places (take i seen) old → IsRow places (take (i + 1) seen) new
   IsRow-more old new u r = record {
-      found = λ n f h. ⊎_elim
-          (λ (same : slice_index places here.0 ≡ n).
-              let it : here ≡ f = same_Some here f (sym (ap (λ b. cond b (Some here) (get nat_eq old n)) (eq-eqb (slice_index places here.0) n same)) ∙ sym (u.0 n) ∙ h) in
-              (subst (Contains (take (i + 1) seen)) it (subst (λ l. Contains l here) (sym longer) (Contains-push (take i seen) here)), subst (λ g. slice_index places g.0 ≡ n) it same))
-          (λ (other : slice_index places here.0 ≢ n).
-              let was = r.found n f (sym (ap (λ b. cond b (Some here) (get nat_eq old n)) (ne_eqb (slice_index places here.0) n other)) ∙ sym (u.0 n) ∙ h) in
-              (subst (λ l. Contains l f) (sym longer) (Contains-append_left (take i seen) (here ∷ []) f was.0), was.1))
-          (cases_eq (slice_index places here.0) n);
-      each = λ f m. ⊎_elim
-          (λ (before : Contains (take i seen) f).
-              u.0 (slice_index places f.0) ∙ ap (λ b. cond b (Some here) (get nat_eq old (slice_index places f.0))) (ne_eqb (slice_index places here.0) (slice_index places f.0) (place_apart f before)) ∙ r.each f before)
-          (λ (it : here ≡ f). subst (λ g. get nat_eq new (slice_index places g.0) ≡ Some g) it
-              (u.0 (slice_index places here.0) ∙ ap (λ b. cond b (Some here) (get nat_eq old (slice_index places here.0))) (eq-eqb (slice_index places here.0) (slice_index places here.0) refl)))
-          (Contains-push_cases (take i seen) here f (subst (λ l. Contains l f) longer m));
-    }
+    found = λ n f h. ⊎_elim
+        (λ (same : slice_index places here.0 ≡ n).
+        let it : here ≡ f = same_Some here f (sym (ap (λ b. cond b (Some here) (get nat_eq old n)) (eq-eqb (slice_index places here.0) n same)) ∙ sym (u.0 n) ∙ h) in
+        (subst (Contains (take (i + 1) seen)) it (subst (λ l. Contains l here) (sym longer) (Contains-push (take i seen) here)), subst (λ g. slice_index places g.0 ≡ n) it same))
+        (λ (other : slice_index places here.0 ≢ n).
+        let was = r.found n f (sym (ap (λ b. cond b (Some here) (get nat_eq old n)) (ne_eqb (slice_index places here.0) n other)) ∙ sym (u.0 n) ∙ h) in
+        (subst (λ l. Contains l f) (sym longer) (Contains-append_left (take i seen) (here ∷ []) f was.0), was.1))
+        (cases_eq (slice_index places here.0) n);
+    each = λ f m. ⊎_elim
+        (λ (before : Contains (take i seen) f).
+        u.0 (slice_index places f.0) ∙ ap (λ b. cond b (Some here) (get nat_eq old (slice_index places f.0))) (ne_eqb (slice_index places here.0) (slice_index places f.0) (place_apart f before)) ∙ r.each f before)
+        (λ (it : here ≡ f). subst (λ g. get nat_eq new (slice_index places g.0) ≡ Some g) it
+        (u.0 (slice_index places here.0) ∙ ap (λ b. cond b (Some here) (get nat_eq old (slice_index places here.0))) (eq-eqb (slice_index places here.0) (slice_index places here.0) refl)))
+        (Contains-push_cases (take i seen) here f (subst (λ l. Contains l f) longer m));
+  }
     where
       here : FeatId
       here = get_or seen i d
+
       longer : take (i + 1) seen ≡ take i seen ++ get_or seen i d ∷ []
       longer = take_more seen i d inside

@@ -1,6 +1,6 @@
 -- Orders of the classes in which each stands after its supertypes, and the walk that finds one: along a path that climbs
 -- from class to supertype, a class being done once all its supertypes are.
-use Rattle.std.specs.Prelude.{◌≡◌, ℕ, ◌+◌, ◌-◌, ◌*◌, ◌<◌, ◌≤◌, Bool, true, false, cond, List, [], length, take, slice_index, slice_index_or, Contains, sum_by}
+use Rattle.std.specs.Prelude.{◌≡◌, ℕ, ◌+◌, ◌-◌, ◌*◌, ◌<◌, ◌≤◌, Bool, true, false, cond, List, length, take, slice_index, slice_index_or, Contains, sum_by}
 use Rattle.atl_base.specs.declared.numbers.ClassId.{ClassId}
 use Rattle.ecore_meta.specs.declared.parts.Class.{Class}
 use Rattle.ecore_meta.specs.Inheritance.{supers_of}

@@ -24,7 +24,11 @@ fn add_new(seen: &mut IndexSet<FeatId>, features: &[FeatId]) -> Result<(), Alloc
 }
 
 // The features of a class, from the lists of its supertypes.
-fn features_seen(alloc: Global, class: &Class, lists: &[Items<FeatId>]) -> Result<Items<FeatId>, AllocError>
+fn features_seen(
+    alloc: Global,
+    class: &Class,
+    lists: &[Items<FeatId>],
+) -> Result<Items<FeatId>, AllocError>
     requires { (s : ClassId) → Contains class.now.supers s → s.0 < length lists.now }
     ensures { IfOk result (λ list. list ≡ distinct (flat_map (λ s. slice_index_or lists.now s.0 []) class.now.supers) ++ class.now.own) }
 {
@@ -38,7 +42,12 @@ fn features_seen(alloc: Global, class: &Class, lists: &[Items<FeatId>]) -> Resul
 }
 
 // The places of the classes that a class conforms to, from the lists of its supertypes.
-fn conformed(alloc: Global, class: usize, supers: &[ClassId], lists: &[Items<usize>]) -> Result<Items<usize>, AllocError>
+fn conformed(
+    alloc: Global,
+    class: usize,
+    supers: &[ClassId],
+    lists: &[Items<usize>],
+) -> Result<Items<usize>, AllocError>
     requires { (s : ClassId) → Contains supers.now s → s.0 < length lists.now }
     ensures rising { IfOk result IsStrictlyIncreasing }
     ensures each { IfOk result (λ list. (d : ℕ) → Contains list d ↔ Contains (class ∷ flat_map (λ s. slice_index_or lists.now s.0 []) supers.now) d) }
@@ -64,7 +73,11 @@ fn empty_lists<T: Drop>(alloc: Global, count: usize) -> Result<Vec<Items<T>>, Al
 }
 
 // For each class the features that are seen in it.
-pub(crate) fn feature_lists(alloc: Global, classes: &[Class], order: &[usize]) -> Result<Vec<Items<FeatId>>, AllocError>
+pub(crate) fn feature_lists(
+    alloc: Global,
+    classes: &[Class],
+    order: &[usize],
+) -> Result<Vec<Items<FeatId>>, AllocError>
     requires acyclic { IsAcyclic classes.now }
     requires within { AreWithin classes.now }
     requires order { IsSupersFirst classes.now order.now }
@@ -79,7 +92,11 @@ pub(crate) fn feature_lists(alloc: Global, classes: &[Class], order: &[usize]) -
 }
 
 // For each class the places of the classes that it conforms to.
-pub(crate) fn conformed_lists(alloc: Global, classes: &[Class], order: &[usize]) -> Result<Vec<Items<usize>>, AllocError>
+pub(crate) fn conformed_lists(
+    alloc: Global,
+    classes: &[Class],
+    order: &[usize],
+) -> Result<Vec<Items<usize>>, AllocError>
     requires within { AreWithin classes.now }
     requires order { IsSupersFirst classes.now order.now }
     ensures { IfOk result (λ lists. AreConformed classes.now lists.items) }

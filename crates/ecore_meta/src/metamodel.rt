@@ -142,11 +142,9 @@ impl Metamodel {
 /// The law of the features that are seen in a class, by those of its supertypes.
 pub fn features_law()
     ensures { (m : Parts) → IsMetamodel m → IsFeaturesLaw m.classes }
-{
-}
+{}
 
 /// What is seen in a class is what the classes declare that it conforms to.
 pub fn seen_law()
     ensures { (m : Parts) → IsMetamodel m → IsSeenLaw m.classes }
-{
-}
+{}

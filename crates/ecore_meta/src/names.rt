@@ -20,7 +20,12 @@ pub(crate) struct Places {
 }
 
 // The place that a name leads to: this one, where it leads to none yet.
-fn place_of(alloc: Global, firsts: &mut HashMap<String, usize>, name: &str, place: usize) -> Result<usize, AllocError>
+fn place_of(
+    alloc: Global,
+    firsts: &mut HashMap<String, usize>,
+    name: &str,
+    place: usize,
+) -> Result<usize, AllocError>
     ensures here { IfOk result (λ first. get_by_text firsts.new name.now ≡ Some first) }
     ensures kept { OnOk result ((q : List ℕ) (i : ℕ) → get_by_text firsts.old q ≡ Some i → get_by_text firsts.new q ≡ Some i) }
     ensures added { OnOk result ((q : List ℕ) (i : ℕ) → get_by_text firsts.new q ≡ Some i → ((get_by_text firsts.old q ≡ Some i) ⊎ ((q ≡ name.now) × (i ≡ place)))) }
@@ -47,7 +52,11 @@ pub(crate) fn first_places(alloc: Global, features: &[Feature]) -> Result<Places
 }
 
 // The features of a class, each under its place.
-fn named_row(alloc: Global, places: &[usize], seen: &[FeatId]) -> Result<HashMap<usize, FeatId>, AllocError>
+fn named_row(
+    alloc: Global,
+    places: &[usize],
+    seen: &[FeatId],
+) -> Result<HashMap<usize, FeatId>, AllocError>
     requires within { (f : FeatId) → Contains seen.now f → f.0 < length places.now }
     requires differ { AllDiffer (map (λ f. slice_index places.now f.0) seen.now) }
     ensures { IfOk result (IsRow places.now seen.now) }
@@ -60,7 +69,11 @@ fn named_row(alloc: Global, places: &[usize], seen: &[FeatId]) -> Result<HashMap
 }
 
 // The features of each class, each under its place.
-pub(crate) fn named_rows(alloc: Global, places: &[usize], lists: &[Items<FeatId>]) -> Result<Vec<HashMap<usize, FeatId>>, AllocError>
+pub(crate) fn named_rows(
+    alloc: Global,
+    places: &[usize],
+    lists: &[Items<FeatId>],
+) -> Result<Vec<HashMap<usize, FeatId>>, AllocError>
     requires within { (c : ℕ) (f : FeatId) → Contains (slice_index_or lists.now c []) f → f.0 < length places.now }
     requires differ { (c : ℕ) → AllDiffer (map (λ f. slice_index places.now f.0) (slice_index_or lists.now c [])) }
     ensures lengths { IfOk result (λ rows. length rows.items ≡ length lists.now) }

@@ -26,9 +26,9 @@ loop-sup-preserved c =
     let within : here.0 < length lists = c.requires here (Contains-get_or supers c.loop-sup.sup-index none inside) in
     let read : c.as_slice.result.now ≡ row here = c.as_slice.ensures ∙ c.index-lists-sup.is ∙ get_or_default lists here.0 c.index-lists-sup.result [] within in
     c.in_ok-extend_from_slice.ensures.items
-        ∙ ap (λ (l : List ℕ). l ++ c.as_slice.result.now) c.loop-sup.invariant
-        ∙ ap (λ (l : List ℕ). c.args.class ∷ (flat_map row (take c.loop-sup.sup-index supers) ++ l)) read
-        ∙ ap (λ (l : List ℕ). c.args.class ∷ l) (flat_map-take_more row supers c.loop-sup.sup-index none inside)
+    ∙ ap (λ (l : List ℕ). l ++ c.as_slice.result.now) c.loop-sup.invariant
+    ∙ ap (λ (l : List ℕ). c.args.class ∷ (flat_map row (take c.loop-sup.sup-index supers) ++ l)) read
+    ∙ ap (λ (l : List ℕ). c.args.class ∷ l) (flat_map-take_more row supers c.loop-sup.sup-index none inside)
 
 pub returns-clause-rising : goal.returns-clause-rising
 returns-clause-rising c =
@@ -40,7 +40,7 @@ returns-clause-each c =
     let row : ClassId → List ℕ = λ s. get_or c.args.lists.now s.0 [] in
     let done : length supers ≤ c.loop-sup.sup-index = search rules in
     let all : c.loop-sup.list.items ≡ c.args.class ∷ flat_map row supers =
-        c.loop-sup.invariant ∙ ap (λ (l : List ClassId). c.args.class ∷ flat_map row l) (take_all c.loop-sup.sup-index supers done) in
+    c.loop-sup.invariant ∙ ap (λ (l : List ClassId). c.args.class ∷ flat_map row l) (take_all c.loop-sup.sup-index supers done) in
     λ d. subst (λ (l : List ℕ). Contains l d ↔ Contains (c.args.class ∷ flat_map row supers) d) (sym c.from_vec.ensures)
-        (subst (λ (l : List ℕ). Contains c.dedup.new.self.items d ↔ Contains l d) all
-            (Contains-sorted c.loop-sup.list.items c.sort.new.self.items c.dedup.new.self.items d c.in_ok-sort.ensures.permutation c.dedup.ensures.filtered))
+    (subst (λ (l : List ℕ). Contains c.dedup.new.self.items d ↔ Contains l d) all
+    (Contains-sorted c.loop-sup.list.items c.sort.new.self.items c.dedup.new.self.items d c.in_ok-sort.ensures.permutation c.dedup.ensures.filtered))

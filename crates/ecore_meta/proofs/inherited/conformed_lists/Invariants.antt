@@ -9,7 +9,7 @@ use Rattle.ecore_meta.proofs.inherited.conformed_lists.Given as goal
 -- the classes so far have their lists
 abbrev pub invariant-loop-class : goal.invariant-loop-class
 invariant-loop-class l = record {
-    lengths : length l.lists.items ≡ length l.classes;
-    rising : (c : ℕ) → Contains (take l.class-index l.order) c → IsStrictlyIncreasing (slice_index_or l.lists.items c []);
-    each : (c d : ℕ) → Contains (take l.class-index l.order) c → Contains (slice_index_or l.lists.items c []) d ↔ Conforms l.classes (class_no c) (class_no d);
-  }
+  lengths : length l.lists.items ≡ length l.classes;
+  rising : (c : ℕ) → Contains (take l.class-index l.order) c → IsStrictlyIncreasing (slice_index_or l.lists.items c []);
+  each : (c d : ℕ) → Contains (take l.class-index l.order) c → Contains (slice_index_or l.lists.items c []) d ↔ Conforms l.classes (class_no c) (class_no d);
+}

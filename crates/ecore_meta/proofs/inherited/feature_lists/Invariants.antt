@@ -8,6 +8,6 @@ use Rattle.ecore_meta.proofs.inherited.feature_lists.Given as goal
 -- the classes so far have their lists
 abbrev pub invariant-loop-class : goal.invariant-loop-class
 invariant-loop-class l = record {
-    lengths : length l.lists.items ≡ length l.classes;
-    each : (c : ℕ) → Contains (take l.class-index l.order) c → slice_index_or l.lists.items c [] ≡ features l.classes (class_no c);
-  }
+  lengths : length l.lists.items ≡ length l.classes;
+  each : (c : ℕ) → Contains (take l.class-index l.order) c → slice_index_or l.lists.items c [] ≡ features l.classes (class_no c);
+}

@@ -1,4 +1,4 @@
-use Rattle.std.proofs.Common.{◌≡◌, ◌<◌, List, [], ◌++◌, take, length, get_or, sym, ap, subst, ◌∙◌, rules}
+use Rattle.std.proofs.Common.{◌≡◌, ◌<◌, List, [], ◌++◌, take, length, get_or, ap, subst, ◌∙◌, rules}
 use Rattle.std.proofs.lemmas.List.{get_or_default}
 use Rattle.std.proofs.lemmas.List.Elements.{Contains-get_or}
 use Rattle.std.specs.List.{Contains, flat_map}
@@ -14,7 +14,7 @@ bounds-lists-sup c =
     let supers : List ClassId = c.as_slice-sup-items.result.now in
     let inside : c.loop-sup.sup-index < length supers = search rules in
     c.requires (get_or supers c.loop-sup.sup-index none)
-        (subst (λ (l : List ClassId). Contains l (get_or supers c.loop-sup.sup-index none)) c.as_slice-sup-items.ensures (Contains-get_or supers c.loop-sup.sup-index none inside))
+    (subst (λ (l : List ClassId). Contains l (get_or supers c.loop-sup.sup-index none)) c.as_slice-sup-items.ensures (Contains-get_or supers c.loop-sup.sup-index none inside))
 
 pub loop-sup-preserved : goal.loop-sup-preserved
 loop-sup-preserved c =
@@ -27,5 +27,5 @@ loop-sup-preserved c =
     let within : here.0 < length lists = c.requires here (subst (λ (l : List ClassId). Contains l here) c.as_slice-sup-items.ensures (Contains-get_or supers c.loop-sup.sup-index none inside)) in
     let read : c.as_slice.result.now ≡ seen here = c.as_slice.ensures ∙ c.index-lists-sup.is ∙ get_or_default lists here.0 _ [] within in
     c.in_ok-add_new.ensures (flat_map seen (take c.loop-sup.sup-index supers)) c.loop-sup.invariant
-        ∙ ap (λ (l : List FeatId). distinct (flat_map seen (take c.loop-sup.sup-index supers) ++ l)) read
-        ∙ ap distinct (flat_map-take_more seen supers c.loop-sup.sup-index none inside)
+    ∙ ap (λ (l : List FeatId). distinct (flat_map seen (take c.loop-sup.sup-index supers) ++ l)) read
+    ∙ ap distinct (flat_map-take_more seen supers c.loop-sup.sup-index none inside)

@@ -1,5 +1,5 @@
 use Rattle.std.proofs.Common.{◌≡◌, ℕ, ◌+◌, ◌<◌, ◌≤◌, List, [], ◌∷◌, ◌++◌, length, get_or, map, sym, ap, subst, ◌∙◌, ⊎_elim, rules, arith}
-use Rattle.std.specs.Prelude.{slice_index, slice_index_or}
+use Rattle.std.specs.Prelude.{slice_index}
 use Rattle.std.proofs.lemmas.Bool.{cases_lt}
 use Rattle.std.proofs.lemmas.List.{get_or_append_left, get_or_push, length_push, get_or_default}
 use Rattle.std.specs.List.{Contains}
@@ -38,10 +38,10 @@ loop-list-preserved c =
       lengths = ap length c.in_ok-push.ensures.items ∙ length_push rows row ∙ ap (λ n. n + 1) i.lengths;
       each = λ k d h. subst (λ (r : List Row). IsRow c.args.places.now (get_or lists k []) (get_or r k d)) (sym c.in_ok-push.ensures.items)
           (⊎_elim
-              (λ (old : k < at). subst (IsRow c.args.places.now (get_or lists k [])) (sym (get_or_append_left rows (row ∷ []) d k (omega (arith, i.lengths)))) (i.each k d old))
-              (λ (new : at ≤ k).
-                  let same : at ≡ k = omega arith in
-                  subst (λ n. IsRow c.args.places.now (get_or lists n []) (get_or (rows ++ row ∷ []) n d)) same
-                      (subst (IsRow c.args.places.now (get_or lists at [])) (sym (get_or_push rows row d at i.lengths)) made))
-              (cases_lt k at));
+          (λ (old : k < at). subst (IsRow c.args.places.now (get_or lists k [])) (sym (get_or_append_left rows (row ∷ []) d k (omega (arith, i.lengths)))) (i.each k d old))
+          (λ (new : at ≤ k).
+          let same : at ≡ k = omega arith in
+          subst (λ n. IsRow c.args.places.now (get_or lists n []) (get_or (rows ++ row ∷ []) n d)) same
+          (subst (IsRow c.args.places.now (get_or lists at [])) (sym (get_or_push rows row d at i.lengths)) made))
+          (cases_lt k at));
     }

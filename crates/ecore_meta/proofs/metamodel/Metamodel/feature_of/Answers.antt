@@ -1,7 +1,6 @@
-use Rattle.std.proofs.Common.{◌≡◌, ◌≢◌, ℕ, ◌<◌, List, length, get_or, sym, ap, subst, ◌∙◌, rules, arith, Option, Some, None}
-use Rattle.std.specs.Prelude.{option_copied, nat_eq, IfSome, IfNone, Contains}
-use Rattle.std.specs.HashMap.{get, get_by_text}
-use Rattle.std.proofs.lemmas.List.{get_or_default}
+use Rattle.std.proofs.Common.{◌≡◌, ◌≢◌, ◌<◌, List, length, sym, subst, ◌∙◌, rules, Option, Some, None}
+use Rattle.std.specs.Prelude.{IfSome, IfNone, Contains}
+use Rattle.std.specs.HashMap.{get_by_text}
 use Rattle.atl_base.specs.declared.numbers.FeatId.{FeatId}
 use Rattle.ecore_meta.specs.declared.parts.Parts.{Parts}
 use Rattle.ecore_meta.specs.Inheritance.{features, name_of}
@@ -18,9 +17,9 @@ returns-in_err-first-clause-none c =
     let inside : class.0 < length m.classes = subst (λ (m : Parts). class.0 < length m.classes) (sym same) c.requires in
     let absent : get_by_text c.self.inside.firsts c.args.name.now ≡ None = search rules in
     let none : (f : FeatId) → Contains (features m.classes class) f → name_of m.features f ≢ c.args.name.now =
-        no_feature m.features c.self.inside.firsts (features m.classes class) c.args.name.now t.names (λ f k. features_within m t.valid c.self.inside.seen.items t.lists class f inside k) absent in
+    no_feature m.features c.self.inside.firsts (features m.classes class) c.args.name.now t.names (λ f k. features_within m t.valid c.self.inside.seen.items t.lists class f inside k) absent in
     subst (λ (r : Option FeatId). IfNone r ((f : FeatId) → Contains (features c.args.self.now.classes class) f → name_of c.args.self.now.features f ≢ c.args.name.now)) (sym c.from_residual.ensures)
-        (subst (λ (m : Parts). (f : FeatId) → Contains (features m.classes class) f → name_of m.features f ≢ c.args.name.now) same none)
+    (subst (λ (m : Parts). (f : FeatId) → Contains (features m.classes class) f → name_of m.features f ≢ c.args.name.now) same none)
 
 pub returns-clause-some : goal.returns-clause-some
 returns-clause-some c =
@@ -32,10 +31,10 @@ returns-clause-some c =
     let leads : get_by_text c.self.inside.firsts c.args.name.now ≡ Some c.in_ok-first.first.now = search rules in
     let rows : List Row = c.self.inside.named.items in
     let named : AreNamed m.features c.self.inside.firsts (features m.classes class) c.index.result.now =
-        subst (AreNamed m.features c.self.inside.firsts (features m.classes class)) (sym c.index.ensures) (t.named.each class.0 c.index.result.now inside) in
+    subst (AreNamed m.features c.self.inside.firsts (features m.classes class)) (sym c.index.ensures) (t.named.each class.0 c.index.result.now inside) in
     subst (λ (m : Parts). IfSome c.copied.result (λ f. Contains (features m.classes class) f × (name_of m.features f ≡ c.args.name.now))) same
-        (feature_some m.features c.self.inside.firsts (features m.classes class) c.index.result.now t.names named c.args.name.now c.in_ok-first.first.now leads
-            c.copied.result (c.copied.ensures ∙ c.get-2.ensures.value))
+    (feature_some m.features c.self.inside.firsts (features m.classes class) c.index.result.now t.names named c.args.name.now c.in_ok-first.first.now leads
+    c.copied.result (c.copied.ensures ∙ c.get-2.ensures.value))
 
 pub returns-clause-none : goal.returns-clause-none
 returns-clause-none c =
@@ -46,7 +45,7 @@ returns-clause-none c =
     let inside : class.0 < length m.classes = subst (λ (m : Parts). class.0 < length m.classes) (sym same) c.requires in
     let leads : get_by_text c.self.inside.firsts c.args.name.now ≡ Some c.in_ok-first.first.now = search rules in
     let named : AreNamed m.features c.self.inside.firsts (features m.classes class) c.index.result.now =
-        subst (AreNamed m.features c.self.inside.firsts (features m.classes class)) (sym c.index.ensures) (t.named.each class.0 c.index.result.now inside) in
+    subst (AreNamed m.features c.self.inside.firsts (features m.classes class)) (sym c.index.ensures) (t.named.each class.0 c.index.result.now inside) in
     subst (λ (m : Parts). IfNone c.copied.result ((f : FeatId) → Contains (features m.classes class) f → name_of m.features f ≢ c.args.name.now)) same
-        (feature_none m.features c.self.inside.firsts (features m.classes class) c.index.result.now t.names named c.args.name.now c.in_ok-first.first.now leads
-            c.copied.result (c.copied.ensures ∙ c.get-2.ensures.value))
+    (feature_none m.features c.self.inside.firsts (features m.classes class) c.index.result.now t.names named c.args.name.now c.in_ok-first.first.now leads
+    c.copied.result (c.copied.ensures ∙ c.get-2.ensures.value))
