@@ -4,5 +4,6 @@ pub mod FeatureLaws
 pub mod LookUps
 pub mod Membership
 pub mod NameLaws
+pub mod Samples
 pub mod TableLaws
 pub mod Walks

@@ -6,3 +6,6 @@ pub mod metamodel;
 mod names;
 mod order;
 pub mod parts;
+
+#[cfg(test)]
+mod tests;
