@@ -59,8 +59,8 @@ AllDiffer-tested e tells [] h = λ i j d low high. absurd (omega (arith, high))
 AllDiffer-tested e tells (x ∷ xs) h =
     let parts = and_parts (list_all (λ y. not (e x y)) xs) (all_differ e xs) h in
     AllPairs-cons (λ x y. x ≢ y) x xs
-        (All-tested (λ y. x ≢ y) (λ y. not (e x y)) (λ y t same. false≢true (ap not (sym (tells x y same)) ∙ t)) xs parts.0)
-        (AllDiffer-tested e tells xs parts.1)
+    (All-tested (λ y. x ≢ y) (λ y. not (e x y)) (λ y t same. false≢true (ap not (sym (tells x y same)) ∙ t)) xs parts.0)
+    (AllDiffer-tested e tells xs parts.1)
 
 same_text : (x y : List ℕ) → x ≡ y → bytes_eq x y ≡ true
 same_text x y e = (bytes_eq-Decides x y).1 e
@@ -184,7 +184,7 @@ module _ (ranks : List ℕ) (m : Parts) (p : Passes ranks m) where
   rank_falls c s h =
       let k = of_class (λ k. k.supers) (slice_get m.classes c.0) s h in
       ltb-true (slice_index ranks s.0) (slice_index ranks c.0)
-          (tested (λ s. ltb (slice_index ranks s.0) (slice_index ranks c.0)) k.0.supers s (at_place (rises ranks) m.classes c.0 k.0 p.rising k.1) k.2)
+      (tested (λ s. ltb (slice_index ranks s.0) (slice_index ranks c.0)) k.0.supers s (at_place (rises ranks) m.classes c.0 k.0 p.rising k.1) k.2)
 
   rank_conforms : {c d : ClassId} → Conforms m.classes c d → slice_index ranks d.0 ≤ slice_index ranks c.0
   rank_conforms itself = omega arith
@@ -203,15 +203,16 @@ module _ (ranks : List ℕ) (m : Parts) (p : Passes ranks m) where
       let found = Any-from_list_any (λ g. eqb g.0 f.0) (own_of m.classes x.owner) (at_place (is_owned m.classes) m.features f.0 x p.owning at) in
       let it : found.1 ≡ f = ap (λ n. let g : FeatId = record { 0 = n } in g) (eqb-true found.1.0 f.0 found.4) in
       subst (λ d. Contains (own_of m.classes d) f) (same_Some x.owner c e)
-          (subst (Contains (own_of m.classes x.owner)) it (found.0, found.2, found.3))
+      (subst (Contains (own_of m.classes x.owner)) it (found.0, found.2, found.3))
 
   pub owners_tested : (c : ClassId) (f : FeatId) → Contains (own_of m.classes c) f ↔ (owner_of m.features f ≡ Some c)
-  owners_tested c f =
-      (λ h.
-          let k = of_class (λ k. k.own) (slice_get m.classes c.0) f h in
-          owner_told c f (slice_get m.features f.0)
-              (tested (λ f. option_map_or (λ x. eqb x.owner.0 c.0) (slice_get m.features f.0) false) k.0.own f (at_place (owns m.features) m.classes c.0 k.0 p.owned k.1) k.2),
-       λ e. owned_told c f (slice_get m.features f.0) refl e)
+  owners_tested c f = (
+    λ h.
+        let k = of_class (λ k. k.own) (slice_get m.classes c.0) f h in
+        owner_told c f (slice_get m.features f.0)
+        (tested (λ f. option_map_or (λ x. eqb x.owner.0 c.0) (slice_get m.features f.0) false) k.0.own f (at_place (owns m.features) m.classes c.0 k.0 p.owned k.1) k.2),
+    λ e. owned_told c f (slice_get m.features f.0) refl e,
+  )
 
   owner_place : (c : ClassId) (f : FeatId) (o : Option Feature) → slice_get m.features f.0 ≡ o → option_map (λ x. x.owner) o ≡ Some c → f.0 < length m.features
   owner_place c f None at e = absurd (none-some c e)
@@ -221,13 +222,13 @@ module _ (ranks : List ℕ) (m : Parts) (p : Passes ranks m) where
   own_differ_tested c None at = AllDiffer-tested (λ f g. eqb f.0 g.0) (λ f g e. eq-eqb f.0 g.0 (ap (λ x. x.0) e)) [] refl
   own_differ_tested c (Some k) at =
       AllDiffer-tested (λ f g. eqb f.0 g.0) (λ f g e. eq-eqb f.0 g.0 (ap (λ x. x.0) e)) k.own
-          (list_all-at (λ c. all_differ (λ f g. eqb f.0 g.0) c.own) m.classes c.0 k p.own at)
+      (list_all-at (λ c. all_differ (λ f g. eqb f.0 g.0) c.own) m.classes c.0 k p.own at)
 
   fits_told : (f g : FeatId) (feature other : Feature) → slice_get m.features f.0 ≡ Some feature → opposite_of feature.kind ≡ Some g → slice_get m.features g.0 ≡ Some other → AreOpposite f feature other
   fits_told f g feature other at e there =
       let h : fits_opposite m.features f.0 feature ≡ true = at_place (fits_opposite m.features) m.features f.0 feature p.opposites at in
       let t : fits f.0 feature other ≡ true =
-          ap (λ o. option_map_or (fits f.0 feature) o true) (sym there) ∙ ap (λ o. option_map_or (λ g. option_map_or (fits f.0 feature) (slice_get m.features g.0) true) o true) (sym e) ∙ h in
+      ap (λ o. option_map_or (fits f.0 feature) o true) (sym there) ∙ ap (λ o. option_map_or (λ g. option_map_or (fits f.0 feature) (slice_get m.features g.0) true) o true) (sym e) ∙ h in
       let a = and_parts (is_feature (opposite_of other.kind) f.0) _ t in
       let b = and_parts (is_class (class_of feature.kind) other.owner) _ a.1 in
       let d = and_parts (is_class (class_of other.kind) feature.owner) (not (is_containment feature.kind && is_containment other.kind)) b.1 in
@@ -240,34 +241,34 @@ module _ (ranks : List ℕ) (m : Parts) (p : Passes ranks m) where
 
   pub passed : IsMetamodel m
   passed = record {
-      places = record {
-        packages = All-tested (λ c. c.package < length m.packages) (λ c. ltb c.package (length m.packages)) (λ c t. ltb-true c.package (length m.packages) t) m.classes p.packages;
-        supers = λ c s h.
-            let k = of_class (λ k. k.supers) (slice_get m.classes c.0) s h in
-            ltb-true s.0 (length m.classes) (tested (λ s. ltb s.0 (length m.classes)) k.0.supers s (list_all-at (λ c. list_all (λ s. ltb s.0 (length m.classes)) c.supers) m.classes c.0 k.0 p.supers k.1) k.2);
-        own = λ c f h. owner_place c f (slice_get m.features f.0) refl ((owners_tested c f).0 h);
-        owners = All-tested (λ f. f.owner.0 < length m.classes) (λ f. ltb f.owner.0 (length m.classes)) (λ f t. ltb-true f.owner.0 (length m.classes) t) m.features p.owners;
-        kinds = All-tested (λ f. IsKindWithin m f.kind) (λ f. is_kind_within m f.kind) (λ f t. IsKindWithin-tested m f.kind t) m.features p.kinds;
-        skipped = subst (All (λ s. s.owner.0 < length m.classes)) (sym p.skipped) (λ k d h. absurd (omega (arith, h)));
-      };
-      acyclic = acyclic_tested;
-      owners = owners_tested;
-      own_differ = λ c. own_differ_tested c (slice_get m.classes c.0) refl;
-      seen_differ = λ c h.
-          AllDiffer-tested bytes_eq same_text (map (name_of m.features) (features m.classes c))
-              (at_place (λ i k. all_differ bytes_eq (map (name_of m.features) (features m.classes (class_no i)))) m.classes c.0 _ p.seen (slice_get-get_or m.classes c.0 (record { name = []; «package» = 0; is_abstract = false; supers = []; own = [] }) h));
-      defaults = All-tested (λ f. is_reference f.kind ≡ false → IfSome f.default (IsTextOf m f.kind)) (λ f. is_none f.default) (λ f t k. none_told f.default (IsTextOf m f.kind) t) m.features p.defaults;
-      opposites = fits_told;
-      classifiers_differ = AllDiffer-tested bytes_eq same_text _ p.classifiers;
-      literals_differ = subst (All (λ e. AllDiffer (map (λ l. l.name) e.literals) × AllDiffer (map (λ l. l.text) e.literals))) (sym p.enums) (λ k d h. absurd (omega (arith, h)));
-      uris_differ = AllDiffer-tested bytes_eq same_text (map (λ p. p.uri) m.packages) p.uris;
-      prefixes_differ = AllDiffer-tested bytes_eq same_text (map (λ p. p.prefix) m.packages) p.prefixes;
-      names = record {
-        packages = All-tested (λ p. IsName p.name × IsPrefix p.prefix × IsUri p.uri) (λ p. is_name p.name && (is_prefix p.prefix && is_uri p.uri))
-            (λ p t. let a = and_parts (is_name p.name) _ t in let b = and_parts (is_prefix p.prefix) (is_uri p.uri) a.1 in (IsName-tested p.name a.0, IsPrefix-tested p.prefix b.0, IsUri-tested p.uri b.1)) m.packages p.package_names;
-        classes = All-tested (λ c. IsName c.name) (λ c. is_name c.name) (λ c t. IsName-tested c.name t) m.classes p.class_names;
-        features = All-tested (λ f. IsName f.name × HasNoDot f.name) (λ f. is_name f.name && not (list_any (λ b. eqb b 46) f.name))
-            (λ f t. let a = and_parts (is_name f.name) (not (list_any (λ b. eqb b 46) f.name)) t in (IsName-tested f.name a.0, not_true _ a.1)) m.features p.feature_names;
-        enums = subst (All (λ e. IsName e.name × All (λ l. IsName l.name) e.literals)) (sym p.enums) (λ k d h. absurd (omega (arith, h)));
-      };
-    }
+    places = record {
+      packages = All-tested (λ c. c.package < length m.packages) (λ c. ltb c.package (length m.packages)) (λ c t. ltb-true c.package (length m.packages) t) m.classes p.packages;
+      supers = λ c s h.
+          let k = of_class (λ k. k.supers) (slice_get m.classes c.0) s h in
+          ltb-true s.0 (length m.classes) (tested (λ s. ltb s.0 (length m.classes)) k.0.supers s (list_all-at (λ c. list_all (λ s. ltb s.0 (length m.classes)) c.supers) m.classes c.0 k.0 p.supers k.1) k.2);
+      own = λ c f h. owner_place c f (slice_get m.features f.0) refl ((owners_tested c f).0 h);
+      owners = All-tested (λ f. f.owner.0 < length m.classes) (λ f. ltb f.owner.0 (length m.classes)) (λ f t. ltb-true f.owner.0 (length m.classes) t) m.features p.owners;
+      kinds = All-tested (λ f. IsKindWithin m f.kind) (λ f. is_kind_within m f.kind) (λ f t. IsKindWithin-tested m f.kind t) m.features p.kinds;
+      skipped = subst (All (λ s. s.owner.0 < length m.classes)) (sym p.skipped) (λ k d h. absurd (omega (arith, h)));
+    };
+    acyclic = acyclic_tested;
+    owners = owners_tested;
+    own_differ = λ c. own_differ_tested c (slice_get m.classes c.0) refl;
+    seen_differ = λ c h.
+        AllDiffer-tested bytes_eq same_text (map (name_of m.features) (features m.classes c))
+        (at_place (λ i k. all_differ bytes_eq (map (name_of m.features) (features m.classes (class_no i)))) m.classes c.0 _ p.seen (slice_get-get_or m.classes c.0 (record { name = []; «package» = 0; is_abstract = false; supers = []; own = [] }) h));
+    defaults = All-tested (λ f. is_reference f.kind ≡ false → IfSome f.default (IsTextOf m f.kind)) (λ f. is_none f.default) (λ f t k. none_told f.default (IsTextOf m f.kind) t) m.features p.defaults;
+    opposites = fits_told;
+    classifiers_differ = AllDiffer-tested bytes_eq same_text _ p.classifiers;
+    literals_differ = subst (All (λ e. AllDiffer (map (λ l. l.name) e.literals) × AllDiffer (map (λ l. l.text) e.literals))) (sym p.enums) (λ k d h. absurd (omega (arith, h)));
+    uris_differ = AllDiffer-tested bytes_eq same_text (map (λ p. p.uri) m.packages) p.uris;
+    prefixes_differ = AllDiffer-tested bytes_eq same_text (map (λ p. p.prefix) m.packages) p.prefixes;
+    names = record {
+      packages = All-tested (λ p. IsName p.name × IsPrefix p.prefix × IsUri p.uri) (λ p. is_name p.name && (is_prefix p.prefix && is_uri p.uri))
+          (λ p t. let a = and_parts (is_name p.name) _ t in let b = and_parts (is_prefix p.prefix) (is_uri p.uri) a.1 in (IsName-tested p.name a.0, IsPrefix-tested p.prefix b.0, IsUri-tested p.uri b.1)) m.packages p.package_names;
+      classes = All-tested (λ c. IsName c.name) (λ c. is_name c.name) (λ c t. IsName-tested c.name t) m.classes p.class_names;
+      features = All-tested (λ f. IsName f.name × HasNoDot f.name) (λ f. is_name f.name && not (list_any (λ b. eqb b 46) f.name))
+          (λ f t. let a = and_parts (is_name f.name) (not (list_any (λ b. eqb b 46) f.name)) t in (IsName-tested f.name a.0, not_true _ a.1)) m.features p.feature_names;
+      enums = subst (All (λ e. IsName e.name × All (λ l. IsName l.name) e.literals)) (sym p.enums) (λ k d h. absurd (omega (arith, h)));
+    };
+  }

@@ -6,6 +6,5 @@ pub mod metamodel;
 mod names;
 mod order;
 pub mod parts;
-
 #[cfg(test)]
 mod tests;

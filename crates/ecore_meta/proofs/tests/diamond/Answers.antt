@@ -10,27 +10,44 @@ use Rattle.ecore_meta.proofs.tests.diamond.Goals as goal
 
 abbrev sample : Parts
 sample = record {
-    packages = record { name = codes "Shapes"; uri = codes "Shapes"; prefix = codes "Shapes" } ∷ [];
-    classes = record { name = codes "Low"; «package» = 0; is_abstract = false; supers = record { 0 = 1 } ∷ record { 0 = 2 } ∷ []; own = record { 0 = 0 } ∷ [] }
-        ∷ record { name = codes "Left"; «package» = 0; is_abstract = false; supers = record { 0 = 3 } ∷ []; own = record { 0 = 1 } ∷ [] }
-        ∷ record { name = codes "Right"; «package» = 0; is_abstract = false; supers = record { 0 = 3 } ∷ []; own = record { 0 = 2 } ∷ [] }
-        ∷ record { name = codes "Top"; «package» = 0; is_abstract = true; supers = []; own = record { 0 = 3 } ∷ [] }
-        ∷ record { name = codes "Lowest"; «package» = 0; is_abstract = false; supers = record { 0 = 3 } ∷ record { 0 = 0 } ∷ []; own = record { 0 = 4 } ∷ [] } ∷ [];
-    features = record { name = codes "low"; owner = record { 0 = 0 }; kind = Str; many = false; unique = true; is_id = false; default = None }
-        ∷ record { name = codes "left"; owner = record { 0 = 1 }; kind = Str; many = false; unique = true; is_id = false; default = None }
-        ∷ record { name = codes "right"; owner = record { 0 = 2 }; kind = Str; many = false; unique = true; is_id = false; default = None }
-        ∷ record { name = codes "top"; owner = record { 0 = 3 }; kind = Str; many = false; unique = true; is_id = false; default = None }
-        ∷ record { name = codes "lowest"; owner = record { 0 = 4 }; kind = Str; many = false; unique = true; is_id = false; default = None } ∷ [];
-    enums = [];
-    skipped = [];
-  }
+  packages = record { name = codes "Shapes"; uri = codes "Shapes"; prefix = codes "Shapes" } ∷ [];
+  classes = record { name = codes "Low"; «package» = 0; is_abstract = false; supers = record { 0 = 1 } ∷ record { 0 = 2 } ∷ []; own = record { 0 = 0 } ∷ [] }
+      ∷ record { name = codes "Left"; «package» = 0; is_abstract = false; supers = record { 0 = 3 } ∷ []; own = record { 0 = 1 } ∷ [] }
+      ∷ record { name = codes "Right"; «package» = 0; is_abstract = false; supers = record { 0 = 3 } ∷ []; own = record { 0 = 2 } ∷ [] }
+      ∷ record { name = codes "Top"; «package» = 0; is_abstract = true; supers = []; own = record { 0 = 3 } ∷ [] }
+      ∷ record { name = codes "Lowest"; «package» = 0; is_abstract = false; supers = record { 0 = 3 } ∷ record { 0 = 0 } ∷ []; own = record { 0 = 4 } ∷ [] } ∷ [];
+  features = record { name = codes "low"; owner = record { 0 = 0 }; kind = Str; many = false; unique = true; is_id = false; default = None }
+      ∷ record { name = codes "left"; owner = record { 0 = 1 }; kind = Str; many = false; unique = true; is_id = false; default = None }
+      ∷ record { name = codes "right"; owner = record { 0 = 2 }; kind = Str; many = false; unique = true; is_id = false; default = None }
+      ∷ record { name = codes "top"; owner = record { 0 = 3 }; kind = Str; many = false; unique = true; is_id = false; default = None }
+      ∷ record { name = codes "lowest"; owner = record { 0 = 4 }; kind = Str; many = false; unique = true; is_id = false; default = None } ∷ [];
+  enums = [];
+  skipped = [];
+}
 
 valid : IsMetamodel sample
 unfolding features features_within
 valid = passed (2 ∷ 1 ∷ 1 ∷ 0 ∷ 3 ∷ []) sample (record {
-    enums = refl; skipped = refl; packages = refl; supers = refl; owners = refl; kinds = refl; rising = refl; owned = refl; owning = refl; own = refl; seen = refl;
-    defaults = refl; opposites = refl; classifiers = refl; uris = refl; prefixes = refl; package_names = refl; class_names = refl; feature_names = refl;
-  })
+  enums = refl;
+  skipped = refl;
+  packages = refl;
+  supers = refl;
+  owners = refl;
+  kinds = refl;
+  rising = refl;
+  owned = refl;
+  owning = refl;
+  own = refl;
+  seen = refl;
+  defaults = refl;
+  opposites = refl;
+  classifiers = refl;
+  uris = refl;
+  prefixes = refl;
+  package_names = refl;
+  class_names = refl;
+  feature_names = refl;
+})
 
 pub returns-clause-valid : goal.returns-clause-valid
 returns-clause-valid c =
@@ -45,5 +62,5 @@ returns-clause-valid c =
     let features4 = c.in_ok-features-4.ensures ∙ (λ i. features3 i ++ record { name = codes "top"; owner = record { 0 = 3 }; kind = Str; many = false; unique = true; is_id = false; default = None } ∷ []) in
     let features5 = c.in_ok-features-5.ensures ∙ (λ i. features4 i ++ record { name = codes "lowest"; owner = record { 0 = 4 }; kind = Str; many = false; unique = true; is_id = false; default = None } ∷ []) in
     let built : ◌≡◌ {A = Parts} (record { packages = c.in_ok-packages.packages; classes = c.in_ok-classes-5.classes; features = c.in_ok-features-5.features; enums = c.new-3.result; skipped = c.new-4.result }) sample =
-        λ i. record { packages = c.in_ok-packages.ensures i; classes = classes5 i; features = features5 i; enums = c.new-3.ensures i; skipped = c.new-4.ensures i } in
+    λ i. record { packages = c.in_ok-packages.ensures i; classes = classes5 i; features = features5 i; enums = c.new-3.ensures i; skipped = c.new-4.ensures i } in
     subst IsMetamodel (sym built) valid
