@@ -1,15 +1,15 @@
 -- A test of the conditions on a metamodel that computes, for lists without enumerations and defaults: by it the lists
 -- that the tests build are shown to be valid. Ranks of the classes, higher than those of their supertypes, show that none is its own.
-use Rattle.std.proofs.Common.{◌≡◌, ◌≢◌, ℕ, zero, suc, ◌+◌, ◌<◌, ◌≤◌, ◌&&◌, ◌⊎◌, Bool, true, false, not, eqb, ltb, List, [], ◌∷◌, ◌++◌, length, get_or, map, refl, sym, ap, subst, ◌∙◌, arith, add-zero, Option, Some, None}
+use Rattle.std.proofs.Common.{◌≡◌, ◌≢◌, ℕ, zero, suc, ◌+◌, ◌<◌, ◌≤◌, ◌&&◌, Bool, true, false, not, eqb, ltb, List, [], ◌∷◌, ◌++◌, length, map, refl, sym, ap, subst, ◌∙◌, arith, add-zero, Option, Some, None}
 use Rattle.std.specs.Prelude.{◌↔◌, codes, is_none, IfSome, slice_index, slice_get, option_map}
-use Rattle.std.proofs.lemmas.Bool.{and_parts, true≢false, false≢true, ltb-true, eqb-true, eq-eqb}
-use Rattle.std.proofs.lemmas.List.Elements.{All-weaker, Contains-get_or}
+use Rattle.std.proofs.lemmas.Bool.{and_parts, false≢true, ltb-true, eqb-true, eq-eqb}
+use Rattle.std.proofs.lemmas.List.Elements.{All-weaker}
 use Rattle.std.proofs.lemmas.List.Folds.{Any-from_list_any}
 use Rattle.std.proofs.lemmas.List.Kept.{AllPairs-cons}
 use Rattle.std.proofs.lemmas.List.Sums.{AllPass-from_list_all}
 use Rattle.std.proofs.lemmas.Option.{none-some, same_Some, slice_get-get_or, get_or_from_slice_get, slice_get_within}
 use Rattle.std.proofs.lemmas.Slice.Eq.{bytes_eq-Decides}
-use Rattle.std.specs.List.{All, AllPairs, Contains, list_all, list_any}
+use Rattle.std.specs.List.{All, Contains, list_all, list_any}
 use Rattle.std.specs.Option.{option_map_or}
 use Rattle.std.specs.Str.{bytes_eq}
 use Rattle.atl_base.specs.declared.numbers.ClassId.{ClassId}
@@ -22,7 +22,7 @@ use Rattle.ecore_meta.specs.declared.parts.Parts.{Parts}
 use Rattle.ecore_meta.specs.Inheritance.{Conforms, itself, by_super, IsAcyclic, supers_of, own_of, features, name_of}
 use Rattle.ecore_meta.specs.Names.{IsName, IsPrefix, IsUri, HasNoDot, is_plain_name}
 use Rattle.ecore_meta.specs.Order.{class_no}
-use Rattle.ecore_meta.specs.Valid.{AllDiffer, owner_of, IsKindWithin, ArePlaces, AreNames, AreOpposite, IsMetamodel, is_reference, is_containment, class_of, opposite_of, IsTextOf}
+use Rattle.ecore_meta.specs.Valid.{AllDiffer, owner_of, IsKindWithin, AreOpposite, IsMetamodel, is_reference, is_containment, class_of, opposite_of, IsTextOf}
 
 -- ---- tests of lists
 abbrev pub all_from : {X : Type 0} → (ℕ → X → Bool) → ℕ → List X → Bool

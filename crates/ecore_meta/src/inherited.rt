@@ -1,10 +1,10 @@
 // The tables of what each class inherits: the features that are seen in it, and the classes that it conforms to.
-ghost use Rattle.std.specs.Prelude.{◌≡◌, ℕ, ◌<◌, ◌≤◌, ◌↔◌, ◌++◌, List, [], ◌∷◌, length, IfOk, OnOk, slice_index_or, Contains, flat_map};
+ghost use Rattle.std.specs.Prelude.{◌≡◌, ℕ, ◌<◌, ◌↔◌, ◌++◌, List, [], ◌∷◌, length, IfOk, OnOk, slice_index_or, Contains, flat_map};
 ghost use Rattle.std.specs.List.Sorted.{IsStrictlyIncreasing};
 ghost use Rattle.atl_base.specs.declared.numbers.ClassId.{ClassId};
 ghost use Rattle.atl_base.specs.declared.numbers.FeatId.{FeatId};
 ghost use Rattle.ecore_meta.specs.Inheritance.{IsAcyclic, distinct, features};
-ghost use Rattle.ecore_meta.specs.Order.{class_no, AreWithin, IsSupersFirst};
+ghost use Rattle.ecore_meta.specs.Order.{AreWithin, IsSupersFirst};
 ghost use Rattle.ecore_meta.specs.Tables.{AreFeatureLists, AreConformed};
 
 use crate::parts::Class;
@@ -15,7 +15,8 @@ use std::alloc::{AllocError, Global};
 
 // Adds the features that are not there yet at the end.
 fn add_new(seen: &mut IndexSet<FeatId>, features: &[FeatId]) -> Result<(), AllocError>
-    ensures { OnOk result ((before : List FeatId) → seen.old.keys ≡ distinct before → seen.new.keys ≡ distinct (before ++ features.now)) }
+    ensures { OnOk result ((before : List FeatId) → seen.old.keys ≡ distinct before
+        → seen.new.keys ≡ distinct (before ++ features.now)) }
 {
     for feature in features {
         seen.insert(*feature)?;
@@ -30,7 +31,8 @@ fn features_seen(
     lists: &[Items<FeatId>],
 ) -> Result<Items<FeatId>, AllocError>
     requires { (s : ClassId) → Contains class.now.supers s → s.0 < length lists.now }
-    ensures { IfOk result (λ list. list ≡ distinct (flat_map (λ s. slice_index_or lists.now s.0 []) class.now.supers) ++ class.now.own) }
+    ensures { IfOk result (λ list.
+        list ≡ distinct (flat_map (λ s. slice_index_or lists.now s.0 []) class.now.supers) ++ class.now.own) }
 {
     let mut seen = IndexSet::new(alloc);
     for sup in class.supers.as_slice() {
@@ -50,7 +52,8 @@ fn conformed(
 ) -> Result<Items<usize>, AllocError>
     requires { (s : ClassId) → Contains supers.now s → s.0 < length lists.now }
     ensures rising { IfOk result IsStrictlyIncreasing }
-    ensures each { IfOk result (λ list. (d : ℕ) → Contains list d ↔ Contains (class ∷ flat_map (λ s. slice_index_or lists.now s.0 []) supers.now) d) }
+    ensures each { IfOk result (λ list. (d : ℕ) →
+        Contains list d ↔ Contains (class ∷ flat_map (λ s. slice_index_or lists.now s.0 []) supers.now) d) }
 {
     let mut list = vec![in alloc; class]?;
     for sup in supers {

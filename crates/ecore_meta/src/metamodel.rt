@@ -115,14 +115,17 @@ impl Metamodel {
     /// The feature of a name that is seen in a class.
     pub fn feature_of(&self, class: ClassId, name: &Text) -> Option<FeatId>
         requires { class.0 < length self.now.classes }
-        ensures some { IfSome result (λ f. Contains (features self.now.classes class) f × (name_of self.now.features f ≡ name.now)) }
-        ensures none { IfNone result ((f : FeatId) → Contains (features self.now.classes class) f → name_of self.now.features f ≢ name.now) }
+        ensures some { IfSome result (λ f. Contains (features self.now.classes class) f
+            × (name_of self.now.features f ≡ name.now)) }
+        ensures none { IfNone result ((f : FeatId) → Contains (features self.now.classes class) f
+            → name_of self.now.features f ≢ name.now) }
     {
         let first = self.firsts.get(name.as_str())?;
         self.named[class.0 as usize].get(first).copied()
     }
 
-    /// The features that are seen in a class: those of its supertypes in their order, depth first and each once, then its own.
+    /// The features that are seen in a class: those of its supertypes in their order, depth first and
+    /// each once, then its own.
     pub fn features(&self, class: ClassId) -> Result<Vec<FeatId>, AllocError>
         requires { class.0 < length self.now.classes }
         ensures { IfOk result (λ list. list.items ≡ features self.now.classes class) }

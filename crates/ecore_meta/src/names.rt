@@ -1,6 +1,6 @@
 // The features of each class by their names: a name leads to the place of a feature that bears it, and in each class
 // that place leads to the class's own feature of the name.
-ghost use Rattle.std.specs.Prelude.{◌≡◌, ◌⊎◌, ℕ, ◌<◌, List, [], length, map, IfOk, OnOk, Some, IsSome, Contains, slice_index, slice_index_or};
+ghost use Rattle.std.specs.Prelude.{◌≡◌, ◌⊎◌, ℕ, ◌<◌, List, [], length, map, IfOk, OnOk, Some, Contains, slice_index, slice_index_or};
 ghost use Rattle.std.specs.HashMap.{get_by_text};
 ghost use Rattle.atl_base.specs.declared.numbers.FeatId.{FeatId};
 ghost use Rattle.ecore_meta.specs.Valid.{AllDiffer};
@@ -27,8 +27,10 @@ fn place_of(
     place: usize,
 ) -> Result<usize, AllocError>
     ensures here { IfOk result (λ first. get_by_text firsts.new name.now ≡ Some first) }
-    ensures kept { OnOk result ((q : List ℕ) (i : ℕ) → get_by_text firsts.old q ≡ Some i → get_by_text firsts.new q ≡ Some i) }
-    ensures added { OnOk result ((q : List ℕ) (i : ℕ) → get_by_text firsts.new q ≡ Some i → ((get_by_text firsts.old q ≡ Some i) ⊎ ((q ≡ name.now) × (i ≡ place)))) }
+    ensures kept { OnOk result ((q : List ℕ) (i : ℕ) → get_by_text firsts.old q ≡ Some i
+        → get_by_text firsts.new q ≡ Some i) }
+    ensures added { OnOk result ((q : List ℕ) (i : ℕ) → get_by_text firsts.new q ≡ Some i
+        → ((get_by_text firsts.old q ≡ Some i) ⊎ ((q ≡ name.now) × (i ≡ place)))) }
 {
     if let Some(first) = firsts.get(name) {
         return Ok(*first);
@@ -74,10 +76,13 @@ pub(crate) fn named_rows(
     places: &[usize],
     lists: &[Items<FeatId>],
 ) -> Result<Vec<HashMap<usize, FeatId>>, AllocError>
-    requires within { (c : ℕ) (f : FeatId) → Contains (slice_index_or lists.now c []) f → f.0 < length places.now }
-    requires differ { (c : ℕ) → AllDiffer (map (λ f. slice_index places.now f.0) (slice_index_or lists.now c [])) }
+    requires within { (c : ℕ) (f : FeatId) → Contains (slice_index_or lists.now c []) f
+        → f.0 < length places.now }
+    requires differ { (c : ℕ) →
+        AllDiffer (map (λ f. slice_index places.now f.0) (slice_index_or lists.now c [])) }
     ensures lengths { IfOk result (λ rows. length rows.items ≡ length lists.now) }
-    ensures each { IfOk result (λ rows. (c : ℕ) (d : Row) → c < length lists.now → IsRow places.now (slice_index_or lists.now c []) (slice_index_or rows.items c d)) }
+    ensures each { IfOk result (λ rows. (c : ℕ) (d : Row) → c < length lists.now
+        → IsRow places.now (slice_index_or lists.now c []) (slice_index_or rows.items c d)) }
 {
     let mut rows = Vec::with_capacity(alloc, lists.len())?;
     for list in lists {

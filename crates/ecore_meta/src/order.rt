@@ -1,8 +1,8 @@
 // The classes in an order in which each stands after its supertypes.
 ghost use Rattle.std.specs.Prelude.{◌≡◌, ℕ, ◌+◌, ◌<◌, ◌≤◌, [], length, IfOk, OnOk, true, false, slice_index, HoldsAt};
 ghost use Rattle.std.specs.List.{AllWithin};
-ghost use Rattle.ecore_meta.specs.Inheritance.{IsAcyclic, supers_of};
-ghost use Rattle.ecore_meta.specs.Order.{class_no, AreWithin, is_done, IsSupersFirst, IsWalk, work_left, GoesOn};
+ghost use Rattle.ecore_meta.specs.Inheritance.{IsAcyclic};
+ghost use Rattle.ecore_meta.specs.Order.{AreWithin, is_done, IsSupersFirst, IsWalk, work_left, GoesOn};
 
 use crate::parts::Class;
 use atl_base::numbers::ClassId;
@@ -38,12 +38,16 @@ fn first_undone(supers: &[ClassId], done: &[bool], from: usize) -> usize
 fn step(classes: &[Class], class: usize, walk: &mut Walk) -> Result<(), AllocError>
     requires acyclic { IsAcyclic classes.now }
     requires within { AreWithin classes.now }
-    requires walk { IsWalk classes.now walk.old.done.items walk.old.next.items walk.old.path.items walk.old.order.items }
+    requires walk { IsWalk classes.now walk.old.done.items walk.old.next.items
+        walk.old.path.items walk.old.order.items }
     requires last { (k : ℕ) → k + 1 ≡ length walk.old.path.items → slice_index walk.old.path.items k ≡ class }
     requires some { 0 < length walk.old.path.items }
-    ensures walk { OnOk result (IsWalk classes.now walk.new.done.items walk.new.next.items walk.new.path.items walk.new.order.items) }
-    ensures on { OnOk result (GoesOn walk.old.done.items walk.new.done.items walk.old.path.items walk.new.path.items) }
-    ensures less { OnOk result (work_left classes.now walk.new.done.items walk.new.path.items < work_left classes.now walk.old.done.items walk.old.path.items) }
+    ensures walk { OnOk result (IsWalk classes.now walk.new.done.items walk.new.next.items
+        walk.new.path.items walk.new.order.items) }
+    ensures on { OnOk result (GoesOn walk.old.done.items walk.new.done.items
+        walk.old.path.items walk.new.path.items) }
+    ensures less { OnOk result (work_left classes.now walk.new.done.items walk.new.path.items
+        < work_left classes.now walk.old.done.items walk.old.path.items) }
 {
     let supers = classes[class].supers.as_slice();
     let at = first_undone(supers, &walk.done, walk.next[class]);
@@ -63,13 +67,16 @@ fn climb(classes: &[Class], class: usize, walk: &mut Walk) -> Result<(), AllocEr
     requires acyclic { IsAcyclic classes.now }
     requires within { AreWithin classes.now }
     requires class { class < length classes.now }
-    requires walk { IsWalk classes.now walk.old.done.items walk.old.next.items walk.old.path.items walk.old.order.items }
+    requires walk { IsWalk classes.now walk.old.done.items walk.old.next.items
+        walk.old.path.items walk.old.order.items }
     requires empty { walk.old.path.items ≡ [] }
     requires undone { is_done walk.old.done.items class ≡ false }
-    ensures walk { OnOk result (IsWalk classes.now walk.new.done.items walk.new.next.items walk.new.path.items walk.new.order.items) }
+    ensures walk { OnOk result (IsWalk classes.now walk.new.done.items walk.new.next.items
+        walk.new.path.items walk.new.order.items) }
     ensures empty { OnOk result (walk.new.path.items ≡ []) }
     ensures class { OnOk result (is_done walk.new.done.items class ≡ true) }
-    ensures kept { OnOk result ((c : ℕ) → is_done walk.old.done.items c ≡ true → is_done walk.new.done.items c ≡ true) }
+    ensures kept { OnOk result ((c : ℕ) → is_done walk.old.done.items c ≡ true
+        → is_done walk.new.done.items c ≡ true) }
 {
     walk.path.push(class)?;
     'climb: while let Some(&last) = walk.path.last() {
