@@ -46,20 +46,20 @@ blocked [] rest (d ∷ ds) tail b h e =
     absurd (b d (encode_utf8_all ds ++ tail) (and_parts _ _ h).0 (sym e ∙ append_assoc (encode_utf8 d) (encode_utf8_all ds) tail))
 blocked (c ∷ cs) rest (d ∷ ds) tail b h e =
     let s = encode_same d c (encode_utf8_all ds ++ tail) (encode_utf8_all cs ++ rest)
-        (sym (append_assoc (encode_utf8 d) (encode_utf8_all ds) tail) ∙ e ∙ append_assoc (encode_utf8 c) (encode_utf8_all cs) rest) in
+    (sym (append_assoc (encode_utf8 d) (encode_utf8_all ds) tail) ∙ e ∙ append_assoc (encode_utf8 c) (encode_utf8_all cs) rest) in
     let shorter : length (encode_utf8_all ds) ≤ length (encode_utf8_all cs) = blocked cs rest ds tail b (and_parts _ _ h).1 s.1 in
     omega (arith, length-append (encode_utf8 d) (encode_utf8_all ds), length-append (encode_utf8 c) (encode_utf8_all cs), ap (λ x. length (encode_utf8 x)) s.0)
 
 -- where a text is followed by what no text begins with, there the first offence stands
 pub offence : (seen rest : List ℕ) → IsXmlText seen → Blocks rest → 0 < length rest → IsFirstOffence (seen ++ rest) (length seen)
 offence seen rest p b some = record {
-    front = subst IsXmlText (sym (take-append_seam seen rest)) p;
-    longest = λ m more q.
-        let e : encode_utf8_all q.0 ++ drop m (seen ++ rest) ≡ encode_utf8_all p.0 ++ rest =
-            ap (λ l. l ++ drop m (seen ++ rest)) q.2 ∙ take-append-drop m (seen ++ rest) ∙ ap (λ l. l ++ rest) (sym p.2) in
-        let within : length (encode_utf8_all q.0) ≤ length (encode_utf8_all p.0) = blocked p.0 rest q.0 (drop m (seen ++ rest)) b q.1 e in
-        absurd (omega (arith, within, ap length q.2, ap length p.2, length-append seen rest, length-take m (seen ++ rest)));
-  }
+  front = subst IsXmlText (sym (take-append_seam seen rest)) p;
+  longest = λ m more q.
+      let e : encode_utf8_all q.0 ++ drop m (seen ++ rest) ≡ encode_utf8_all p.0 ++ rest =
+      ap (λ l. l ++ drop m (seen ++ rest)) q.2 ∙ take-append-drop m (seen ++ rest) ∙ ap (λ l. l ++ rest) (sym p.2) in
+      let within : length (encode_utf8_all q.0) ≤ length (encode_utf8_all p.0) = blocked p.0 rest q.0 (drop m (seen ++ rest)) b q.1 e in
+      absurd (omega (arith, within, ap length q.2, ap length p.2, length-append seen rest, length-take m (seen ++ rest)));
+}
 
 -- a character that XML doesn't have blocks
 pub Blocks-char : (c : ℕ) (t : List ℕ) → is_xml_character c ≡ false → Blocks (encode_utf8 c ++ t)
@@ -75,7 +75,7 @@ length-encode_some c t = omega (arith, length-append (encode_utf8 c) t, length-e
 cut : (bs xs ys : List ℕ) → IsXmlText bs → bs ≡ xs ++ ys → IsUtf8 xs → IsUtf8 ys → IsXmlText xs × IsXmlText ys
 cut bs xs ys p e u v =
     let same : p.0 ≡ u.0 ++ v.0 =
-        encodes_same p.0 (u.0 ++ v.0) (p.2 ∙ e ∙ ap (λ l. l ++ ys) (sym u.1.1) ∙ ap (λ l. encode_utf8_all u.0 ++ l) (sym v.1.1) ∙ sym (encodes-append u.0 v.0)) in
+    encodes_same p.0 (u.0 ++ v.0) (p.2 ∙ e ∙ ap (λ l. l ++ ys) (sym u.1.1) ∙ ap (λ l. encode_utf8_all u.0 ++ l) (sym v.1.1) ∙ sym (encodes-append u.0 v.0)) in
     let parts = and_parts (list_all is_xml_character u.0) (list_all is_xml_character v.0) (sym (list_all-append is_xml_character u.0 v.0) ∙ ap (list_all is_xml_character) (sym same) ∙ p.1) in
     ((u.0, parts.0, u.1.1), (v.0, parts.1, v.1.1))
 
@@ -101,13 +101,13 @@ longest_in_front bs n k m v o more q (inr h) = o.longest m more (subst IsXmlText
 
 pub offence_in_front : (bs : List ℕ) (n k : ℕ) → IsValidUpTo bs n → IsFirstOffence (take n bs) k → IsFirstOffence bs k
 offence_in_front bs n k v o = record {
-    front = subst IsXmlText (take-take k n bs (within_front bs n k o (cases_lt n k))) o.front;
-    longest = λ m more q. longest_in_front bs n k m v o more q (cases_lt n m);
-  }
+  front = subst IsXmlText (take-take k n bs (within_front bs n k o (cases_lt n k))) o.front;
+  longest = λ m more q. longest_in_front bs n k m v o more q (cases_lt n m);
+}
 
 -- a front that is UTF-8 and a text, before what is no UTF-8
 pub offence_after_front : (bs : List ℕ) (n : ℕ) → IsValidUpTo bs n → IsXmlText (take n bs) → IsFirstOffence bs n
-offence_after_front bs n v p = record { front = p; longest = λ m more q. v.longest m more (IsUtf8-from_text (take m bs) q); }
+offence_after_front bs n v p = record { front = p; longest = λ m more q. v.longest m more (IsUtf8-from_text (take m bs) q) }
 
 -- after a push that may be refused
 pub IsXmlText-pushed : (b : Bool) (xs ys new : List ℕ) → IsXmlText xs → IsXmlText ys → new ≡ cond b (xs ++ ys) xs → IsXmlText new
@@ -122,7 +122,7 @@ IsXmlText-between bs i j h p b d =
     let around : i + (j - i) ≡ j = omega arith in
     let behind : drop i (take j bs) ≡ part = ap (λ n. drop i (take n bs)) (sym around) ∙ drop-take i (j - i) bs in
     let e : take j bs ≡ take i bs ++ part =
-        sym (take-append-drop i (take j bs)) ∙ ap (λ l. l ++ drop i (take j bs)) (take-take i j bs h) ∙ ap (λ l. take i bs ++ l) behind in
+    sym (take-append-drop i (take j bs)) ∙ ap (λ l. l ++ drop i (take j bs)) (take-take i j bs h) ∙ ap (λ l. take i bs ++ l) behind in
     (cut (take j bs) (take i bs) part front e (IsUtf8-take bs i (IsUtf8-from_text bs p) b) (IsUtf8-between bs i j (IsUtf8-from_text bs p) h b d)).1
 
 -- the first offence of the longest front that is UTF-8

@@ -18,18 +18,19 @@ returns-then-not-is_xml_character c =
     let rest : List ℕ = encode_utf8 c.in-Some.c ++ char_indices_rest c.next.new.self in
     let whole : c.args.text.now ≡ i.0 ++ rest = i.2 ∙ ap (λ l. i.0 ++ l) s.1 in
     let found : IsFirstOffence (i.0 ++ rest) (length i.0) =
-        offence i.0 rest i.1 (Blocks-char c.in-Some.c (char_indices_rest c.next.new.self) (sym c.is_xml_character.ensures ∙ c.if-not-is_xml_character.true)) (length-encode_some c.in-Some.c _) in
+    offence i.0 rest i.1 (Blocks-char c.in-Some.c (char_indices_rest c.next.new.self) (sym c.is_xml_character.ensures ∙ c.if-not-is_xml_character.true)) (length-encode_some c.in-Some.c _) in
     subst (λ n. IsFirstOffence c.args.text.now n) (i.3 ∙ sym s.0) (subst (λ t. IsFirstOffence t (length i.0)) (sym whole) found)
 
 pub loop-at-preserved : goal.loop-at-preserved
 loop-at-preserved c =
     let i = c.loop-at.invariant in
     let s = c.in-Some.ensures.steps in
-    let here : List ℕ = encode_utf8 c.in-Some.c in
-    (i.0 ++ here,
-     IsXmlText-append i.0 here i.1 (IsXmlText-encode c.in-Some.c (sym c.is_xml_character.ensures ∙ c.if-not-is_xml_character.false)),
-     i.2 ∙ ap (λ l. i.0 ++ l) s.1 ∙ sym (append_assoc i.0 here (char_indices_rest c.next.new.self)),
-     length-append i.0 here ∙ ap (λ n. n + length here) i.3 ∙ sym s.2)
+    let here : List ℕ = encode_utf8 c.in-Some.c in (
+      i.0 ++ here,
+      IsXmlText-append i.0 here i.1 (IsXmlText-encode c.in-Some.c (sym c.is_xml_character.ensures ∙ c.if-not-is_xml_character.false)),
+      i.2 ∙ ap (λ l. i.0 ++ l) s.1 ∙ sym (append_assoc i.0 here (char_indices_rest c.next.new.self)),
+      length-append i.0 here ∙ ap (λ n. n + length here) i.3 ∙ sym s.2,
+    )
 
 pub returns : goal.returns
 returns c =
