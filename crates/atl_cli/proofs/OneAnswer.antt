@@ -44,9 +44,6 @@ one_module bytes m n a b =
 abbrev Differ : List Pair → Type 0
 Differ pairs = AllPairs (λ p q. p.name ≢ q.name) pairs
 
-
-
-
 -- of two places with one name neither is before the other
 not_before : (pairs : List Pair) → Differ pairs → (i j : ℕ) (p q : Pair) → i < j → j < length pairs → get_or pairs i p ≡ p → get_or pairs j q ≡ q → p.name ≡ q.name → ⊥
 not_before pairs apart i j p q lt within a b same =

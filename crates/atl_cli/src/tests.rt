@@ -188,7 +188,10 @@ fn targets_are_written(rt: HostRuntime) -> Result<(), Fail> {
     let rows = [
         COPIES,
         copies("<xmi:XMI[A]/>\n", "<xmi:XMI[B]/>\n"),
-        copies("<xmi:XMI[A]>\n  <A:Other name=\"q\"/>\n</xmi:XMI>", "<xmi:XMI[B]/>\n"),
+        copies(
+            "<xmi:XMI[A]>\n  <A:Other name=\"q\"/>\n</xmi:XMI>",
+            "<xmi:XMI[B]/>\n",
+        ),
         copies(
             "<xmi:XMI[A]>\n  <A:Node name=\"p\"/>\n  <A:Other name=\"q\"/>\n  <A:Node/>\n</xmi:XMI>",
             "<xmi:XMI[B]>\n  <B:Item label=\"p\"/>\n  <B:Item/>\n</xmi:XMI>\n",
@@ -197,10 +200,17 @@ fn targets_are_written(rt: HostRuntime) -> Result<(), Fail> {
             "<xmi:XMI[A]>\n  <A:Node other=\"q\"/>\n  <A:Other name=\"q\"/>\n</xmi:XMI>",
             "<B:Item[B]/>\n",
         ),
-        copies("<A:Node[A] name=\"a>é\" other=\"y\"/>\n", "<B:Item[B] label=\"a>é\"/>\n"),
+        copies(
+            "<A:Node[A] name=\"a>é\" other=\"y\"/>\n",
+            "<B:Item[B] label=\"a>é\"/>\n",
+        ),
     ];
     for row in &rows {
-        assert!(rt; holds::<Brand>(alloc, row, Blank::new(1))?, "{}", row.source);
+        assert!(rt;
+            holds::<Brand>(alloc, row, Blank::new(1))?,
+            "{}",
+            row.source
+        );
     }
     Ok(())
 }
@@ -217,7 +227,11 @@ fn sources_are_refused(rt: HostRuntime) -> Result<(), Fail> {
         no_source("<B:Node[A] name=\"x\"/>"),
     ];
     for row in &rows {
-        assert!(rt; holds::<Brand>(alloc, row, Blank::new(1))?, "{}", row.source);
+        assert!(rt;
+            holds::<Brand>(alloc, row, Blank::new(1))?,
+            "{}",
+            row.source
+        );
     }
     Ok(())
 }
@@ -229,12 +243,42 @@ fn words_and_modules_are_refused(rt: HostRuntime) -> Result<(), Fail> {
     let rows = [
         ends(WORDS, "module M;", 15, "15 NotYet: module\n"),
         ends(WORDS, "", 15, "15 NotYet: module\n"),
-        ends("transform M.atl A=A.ecore B=B.ecore IN=in.xmi", MODULE, 15, words),
-        ends("transform M.atl A=a B=b IN=in.xmi OUT=out.xmi C=c", MODULE, 15, words),
-        ends("transform M.atl A=a B=b IN=in.xmi IN=out.xmi", MODULE, 15, words),
-        ends("transform M.atl A=a B=b IN=in.xmi X=out.xmi", MODULE, 15, words),
-        ends("transform -M.atl A=a B=b IN=in.xmi OUT=out.xmi", MODULE, 15, words),
-        ends("grow M.atl A=a B=b IN=in.xmi OUT=out.xmi", MODULE, 15, words),
+        ends(
+            "transform M.atl A=A.ecore B=B.ecore IN=in.xmi",
+            MODULE,
+            15,
+            words,
+        ),
+        ends(
+            "transform M.atl A=a B=b IN=in.xmi OUT=out.xmi C=c",
+            MODULE,
+            15,
+            words,
+        ),
+        ends(
+            "transform M.atl A=a B=b IN=in.xmi IN=out.xmi",
+            MODULE,
+            15,
+            words,
+        ),
+        ends(
+            "transform M.atl A=a B=b IN=in.xmi X=out.xmi",
+            MODULE,
+            15,
+            words,
+        ),
+        ends(
+            "transform -M.atl A=a B=b IN=in.xmi OUT=out.xmi",
+            MODULE,
+            15,
+            words,
+        ),
+        ends(
+            "grow M.atl A=a B=b IN=in.xmi OUT=out.xmi",
+            MODULE,
+            15,
+            words,
+        ),
     ];
     for row in &rows {
         assert!(rt; holds::<Brand>(alloc, row, Blank::new(1))?, "{}", row.words);
