@@ -9,6 +9,8 @@ pub mod laws;
 pub mod refusal;
 pub mod state;
 pub mod symbol;
+#[cfg(test)]
+mod tests;
 pub mod tree;
 mod write;
 
