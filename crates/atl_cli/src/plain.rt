@@ -7,14 +7,14 @@ ghost use Rattle.atl_cli.specs.OneRule.{module_words, expression_words, type_wor
 use atl_base::text::Text;
 
 // A letter or `_`, of ASCII.
-fn begins_name(byte: u8) -> bool
+pub(crate) fn begins_name(byte: u8) -> bool
     ensures { result ≡ begins_name_of byte }
 {
     matches!(byte, b'a'..=b'z' | b'A'..=b'Z' | b'_')
 }
 
 // That or a digit.
-fn continues_name(byte: u8) -> bool
+pub(crate) fn continues_name(byte: u8) -> bool
     ensures { result ≡ continues_name_of byte }
 {
     begins_name(byte) || matches!(byte, b'0'..=b'9')

@@ -2,8 +2,10 @@
 ghost use Rattle.std.specs.Prelude.{◌≡◌, ℕ, ◌+◌, ◌<◌, ◌≤◌, List, IsTrue, ◌↔◌, length, take, drop};
 ghost use Rattle.std.specs.List.{prefix_len};
 ghost use Rattle.std.specs.Option.{option_map};
-ghost use Rattle.atl_cli.specs.Plain.{begins_name as begins_name_of, continues_name as continues_name_of};
+ghost use Rattle.atl_cli.specs.Plain.{continues_name as continues_name_of};
 ghost use Rattle.atl_cli.specs.Source.{stands_in_value as stands_in_value_of, behind as behind_of, begins as begins_of, name_at as name_at_of, class_at as class_at_of, behind_header as behind_header_of, parts_at as parts_at_of, IsEnd};
+
+use crate::plain::{begins_name, continues_name};
 
 // The bytes behind a literal.
 #[tactic(auto, using(crate::proofs::SourceFronts::behind_is))]
@@ -11,18 +13,6 @@ pub(crate) fn behind<'a>(bytes: &'a [u8], front: &[u8]) -> Option<&'a [u8]>
     ensures { option_map (λ rest. rest.now) result ≡ behind_of front.now bytes.now }
 {
     bytes.strip_prefix(front)
-}
-
-fn begins_name(byte: u8) -> bool
-    ensures { result ≡ begins_name_of byte }
-{
-    matches!(byte, b'a'..=b'z' | b'A'..=b'Z' | b'_')
-}
-
-fn continues_name(byte: u8) -> bool
-    ensures { result ≡ continues_name_of byte }
-{
-    begins_name(byte) || matches!(byte, b'0'..=b'9')
 }
 
 fn stands_in_value(byte: u8) -> bool
