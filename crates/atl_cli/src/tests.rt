@@ -1,4 +1,6 @@
 // The program's answers over files in memory, with ample memory: each row's status, line and target.
+ghost use Rattle.std.specs.Prelude.{◌≡◌, ◌<◌};
+
 use crate::call::atl;
 use crate::status::Status;
 use atl_base::steps::Steps;
@@ -34,14 +36,15 @@ struct Row {
     target: Option<&'static str>,
 }
 
-fn push_part(text: &mut String, part: &str, header: &str) -> Result<(), Fail> {
-    match part.split_once(header) {
+// Adds a part of a document, with the header of a metamodel's name where its mark stands.
+fn push_part(text: &mut String, part: &str, mark: &str, name: &str) -> Result<(), Fail> {
+    match part.split_once(mark) {
         Some((front, back)) => {
             text.push_str(front)?;
             text.push_str(HEADER)?;
-            text.push_str(&header[1..2])?;
+            text.push_str(name)?;
             text.push_str("=\"")?;
-            text.push_str(&header[1..2])?;
+            text.push_str(name)?;
             text.push_str("\"")?;
             text.push_str(back)?;
         }
@@ -56,7 +59,7 @@ fn text_of(alloc: Global, words: &str) -> Result<Text, Fail> {
 
 fn files_of(alloc: Global, row: &Row) -> Result<MemFiles, Fail> {
     let mut source = String::new(alloc);
-    push_part(&mut source, row.source, "[A]")?;
+    push_part(&mut source, row.source, "[A]", "A")?;
     let mut held = Vec::new(alloc);
     held.push((
         text_of(alloc, "M.atl")?,
@@ -101,7 +104,7 @@ fn target_of(alloc: Global, row: &Row) -> Result<String, Fail> {
     match row.target {
         Some(part) => {
             target.push_str("<?xml version=\"1.0\" encoding=\"UTF-8\"?>\n")?;
-            push_part(&mut target, part, "[B]")?;
+            push_part(&mut target, part, "[B]", "B")?;
         }
         None => target.push_str("before")?,
     }
