@@ -2,4 +2,4 @@ use Rattle.atl_cli.proofs.tests.targets_are_written.Given as goal
 
 -- a ledger of its own for the steps
 abbrev pub ghosts-holds : goal.ghosts-holds
-ghosts-holds a = record { name = a.blank.name; parts = a.blank.parts }
+ghosts-holds a b = record { name = b.blank.name; parts = b.blank.parts }
