@@ -16,4 +16,5 @@ pub mod Laws
 pub mod Encodings
 pub mod Characters
 pub mod Reading
+pub mod ReadBack
 pub mod Answers
