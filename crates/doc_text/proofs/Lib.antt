@@ -2,6 +2,7 @@ pub mod KindsKept
 pub mod Leading
 pub mod NamesAgain
 pub mod TextsAgain
+pub mod TagsAgain
 pub mod Escaping
 pub mod Opened
 pub mod WrittenElements

@@ -13,7 +13,7 @@ use Rattle.doc_text.specs.Raw.{Name, called}
 use Rattle.doc_text.specs.State.{Bearer, State, Naming, Coloned, Localing, Goes}
 use Rattle.doc_text.specs.Steps.{step, named}
 use Rattle.doc_text.specs.Names.{prefix_of, written_name}
-use Rattle.doc_text.specs.ReadBack.{IsPlainName, IsDeclared}
+use Rattle.doc_text.specs.ReadBack.{IsPlain, IsPlainName, IsDeclared}
 use Rattle.doc_text.specs.declared.tree.Prefix.{Prefix}
 use Rattle.doc_text.proofs.KindsKept.{kind_is, sort_of}
 use Rattle.doc_text.proofs.Leading.{Leads, leads_to, Reads, reads_on, reads_to, plainly, is_written}
@@ -90,7 +90,7 @@ Begins s g = (c : ℕ) (p : Place) → step true s (Letter c) p ≡ Goes (g p (u
 abbrev Gathers : (Place → List ℕ → State) → Type 0
 Gathers g = (q : Place) (n : List ℕ) (k : Kind) (p : Place) → is_name k ≡ true → step true (g q n) k p ≡ Goes (g q (n ++ utf8 k))
 
-plain_reads : (s : State) (g : Place → List ℕ → State) → Begins s g → Gathers g → (n : List ℕ) → IsPlainName n → Reads s n (λ u. (q : Place) × (u ≡ g q n))
+plain_reads : (s : State) (g : Place → List ℕ → State) → Begins s g → Gathers g → (n : List ℕ) → IsPlain n → Reads s n (λ u. (q : Place) × (u ≡ g q n))
 plain_reads s g b f n h = record {
   characters = h.first ∷ h.others;
   spelt = h.spelt;
@@ -108,17 +108,17 @@ localing : (b : Bearer) (q : Place) (m : List ℕ) → Gathers (λ r. Localing b
 localing b q m r n k p h = names (λ k. step true (Localing b q m n) k p ≡ Goes (Localing b q m (n ++ utf8 k))) (λ x. refl) (λ x. refl) refl k h
 
 -- a name without a prefix
-pub unprefixed_reads : (s : State) (b : Bearer) → Begins s (Naming b) → (n : List ℕ) → IsPlainName n → Reads s n (λ u. (q : Place) × IsAtName b (called q [] n) u)
+pub unprefixed_reads : (s : State) (b : Bearer) → Begins s (Naming b) → (n : List ℕ) → IsPlain n → Reads s n (λ u. (q : Place) × IsAtName b (called q [] n) u)
 unprefixed_reads s b f n h = reads_to s n _ _ (plain_reads s (Naming b) f (naming b) n h) (λ u e. (e.0, subst (IsAtName b (called e.0 [] n)) (sym e.1) (at_naming b e.0 n)))
 
 -- behind a colon
-colon_reads : (b : Bearer) (q : Place) (m n : List ℕ) → IsPlainName n → Reads (Naming b q m) (codes ":" ++ n) (λ u. (p : Place) × (u ≡ Localing b q m n))
+colon_reads : (b : Bearer) (q : Place) (m n : List ℕ) → IsPlain n → Reads (Naming b q m) (codes ":" ++ n) (λ u. (p : Place) × (u ≡ Localing b q m n))
 colon_reads b q m n h =
     reads_on (Naming b q m) (codes ":") n (λ u. u ≡ Coloned b q m) _
       (plainly (Naming b q m) (codes ":") _ refl (λ p. (Coloned b q m, refl, refl)))
       (λ u e. subst (λ v. Reads v n (λ u. (p : Place) × (u ≡ Localing b q m n))) (sym e) (plain_reads (Coloned b q m) (λ p. Localing b q m) (λ c p. refl) (localing b q m) n h))
 
-pub prefixed_reads : (s : State) (b : Bearer) → Begins s (Naming b) → (m n : List ℕ) → IsPlainName m → IsPlainName n → Reads s (m ++ (codes ":" ++ n)) (λ u. (q : Place) × IsAtName b (called q m n) u)
+pub prefixed_reads : (s : State) (b : Bearer) → Begins s (Naming b) → (m n : List ℕ) → IsPlain m → IsPlain n → Reads s (m ++ (codes ":" ++ n)) (λ u. (q : Place) × IsAtName b (called q m n) u)
 prefixed_reads s b f m n h k =
     reads_on s m (codes ":" ++ n) _ _ (plain_reads s (Naming b) f (naming b) m h) (λ u e.
         subst (λ v. Reads v (codes ":" ++ n) (λ w. (q : Place) × IsAtName b (called q m n) w)) (sym e.1)
@@ -166,8 +166,8 @@ prefix_in ds (c ∷ cs) = prefix_of ds (c ∷ cs)
 
 pub name_reads : (ds : List Prefix) → All (λ d. IsPlainName d.prefix) ds → (s : State) (b : Bearer) → Begins s (Naming b) → (space n : List ℕ) → IsDeclared ds space → IsPlainName n →
     Reads s (written_name ds space n) (λ u. (q : Place) × IsAtName b (called q (prefix_in ds space) n) u)
-name_reads ds hs s b f [] n d h = unprefixed_reads s b f n h
+name_reads ds hs s b f [] n d h = unprefixed_reads s b f n h.plain
 name_reads ds hs s b f (c ∷ cs) n d h =
     let g = found (λ d. IsPlainName d.prefix) ds (c ∷ cs) hs d in
     subst (λ m. Reads s (m ++ (codes ":" ++ n)) (λ u. (q : Place) × IsAtName b (called q m n) u)) (sym (ap (λ o. option_map_or (λ d. d.prefix) o []) g.is_first))
-      (prefixed_reads s b f g.declaration.prefix n g.keeps h)
+      (prefixed_reads s b f g.declaration.prefix n g.keeps.plain h.plain)

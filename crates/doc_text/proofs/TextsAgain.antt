@@ -10,7 +10,7 @@ use Rattle.std.proofs.lemmas.Str.{encode_ascii}
 use Rattle.atl_base.specs.declared.place.Place.{Place}
 use Rattle.atl_base.specs.XmlText.{is_xml_character, IsXmlText}
 use Rattle.doc_text.specs.Symbols.{Kind, Less, Greater, Slash, And, Semicolon, Quote, Apostrophe, Equals, Bang, Question, Bracket, Hash, Colon, Dash, Blank, Letter, Joint, Other, Bad, code_of, kind_of, utf8}
-use Rattle.doc_text.specs.Raw.{Name, Start, Trees, Nil, Also, Words}
+use Rattle.doc_text.specs.Raw.{Name, Start, Trees, Nil, Also, Words, add_text}
 use Rattle.doc_text.specs.Namespaces.{is_blank_text}
 use Rattle.doc_text.specs.Markup.{ByName}
 use Rattle.doc_text.specs.Form.{bracketed}
@@ -252,3 +252,46 @@ module _ (fs : List Open) where
   -- blanks at the end of what an element has
   abbrev pub IsBlankBehind : Start → Trees → State → Type 0
   IsBlankBehind t ts u = (words : List ℕ) × (is_blank_text words ≡ true) × IsInside (behind t ts words) u
+
+  abbrev blank_code : ℕ → Bool
+  blank_code c = c == 32 || c == 9 || c == 10 || c == 13
+
+  blank_append : (xs ys : List ℕ) → is_blank_text xs ≡ true → is_blank_text ys ≡ true → is_blank_text (xs ++ ys) ≡ true
+  blank_append [] ys h k = k
+  blank_append (x ∷ xs) ys h k =
+      let g = and_parts (blank_code x) (is_blank_text xs) h in
+      and_from (blank_code x) (is_blank_text (xs ++ ys)) g.0 (blank_append xs ys g.1 k)
+
+  space_plain : (c : ℕ) → is_space c ≡ true → (P : ℕ → Type 0) → P 32 → P 10 → P c
+  space_plain c h P x y = on (c == 32) refl
+    where
+      on : (b : Bool) → (c == 32) ≡ b → P c
+      on true e = subst P (sym (eqb-true c 32 e)) x
+      on false e = subst P (sym (eqb-true c 10 (ap (λ b. b || (c == 10)) (sym e) ∙ h))) y
+
+  -- one blank more
+  blank_step : (c j : ℕ) (t : Start) (ts : Trees) (words : List ℕ) (p : Place) → is_space c ≡ true → step true (Inside j (behind t ts words) fs) (kind_of c) p ≡ Goes (Inside 0 (behind t ts (words ++ encode_utf8 c)) fs)
+  blank_step c j t ts words p h = space_plain c h (λ c. step true (Inside j (behind t ts words) fs) (kind_of c) p ≡ Goes (Inside 0 (behind t ts (words ++ encode_utf8 c)) fs)) refl refl
+
+  blank_bytes : (c : ℕ) → is_space c ≡ true → is_blank_text (encode_utf8 c) ≡ true
+  blank_bytes c h = space_plain c h (λ c. is_blank_text (encode_utf8 c) ≡ true) (ap is_blank_text (encode_ascii 32 (omega arith))) (ap is_blank_text (encode_ascii 10 (omega arith)))
+
+  blanks_plain : (cs : List ℕ) → list_all is_space cs ≡ true → list_all is_plain cs ≡ true
+  blanks_plain [] h = refl
+  blanks_plain (c ∷ cs) h =
+      let k = and_parts (is_space c) (list_all is_space cs) h in
+      and_from (is_plain c) (list_all is_plain cs) (space_plain c k.0 (λ c. is_plain c ≡ true) refl refl) (blanks_plain cs k.1)
+
+  blanks_lead : (cs : List ℕ) (j : ℕ) (t : Start) (ts : Trees) (words : List ℕ) → list_all is_space cs ≡ true → is_blank_text words ≡ true → Leads (Inside j (behind t ts words) fs) cs (IsBlankBehind t ts)
+  blanks_lead [] j t ts words h w = (words, w, (j, refl))
+  blanks_lead (c ∷ cs) j t ts words h w = λ p.
+      let k = and_parts (is_space c) (list_all is_space cs) h in
+      (Inside 0 (behind t ts (words ++ encode_utf8 c)) fs, blank_step c j t ts words p k.0,
+       blanks_lead cs 0 t ts (words ++ encode_utf8 c) k.1 (blank_append words (encode_utf8 c) w (blank_bytes c k.0)))
+
+  pub blanks_read : (cs : List ℕ) (t : Start) (ts : Trees) (u : State) → list_all is_space cs ≡ true → IsBlankBehind t ts u → Reads u cs (IsBlankBehind t ts)
+  blanks_read cs t ts u h b = subst (λ v. Reads v cs (IsBlankBehind t ts)) (sym b.2.1) (plainly (Inside b.2.0 (behind t ts b.0) fs) cs _ (blanks_plain cs h) (blanks_lead cs b.2.0 t ts b.0 h b.1))
+
+  -- a line ends behind what is no text
+  pub line_reads : (j : ℕ) (t : Start) (ts : Trees) → ((bytes : List ℕ) → add_text bytes ts ≡ Also ts (Words bytes)) → Reads (Inside j (opened t ts) fs) (codes "\n") (IsBlankBehind t ts)
+  line_reads j t ts e = plainly (Inside j (opened t ts) fs) (codes "\n") _ refl (λ p. (_, refl, (encode_utf8 10, blank_bytes 10 refl, (0, ap (λ us. Inside 0 (opened t us) fs) (e (encode_utf8 10))))))

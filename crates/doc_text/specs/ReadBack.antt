@@ -15,13 +15,17 @@ use Rattle.doc_text.specs.declared.tree.Child.{Child, fold-Child}
 use Rattle.doc_text.specs.declared.tree.Child.TheOpen as layer
 use Rattle.doc_text.specs.declared.tree.Child.TheVariants.{Sub, Words}
 
--- a plain name other than `xmlns`, by its characters
-pub record IsPlainName (name : List ℕ) : Type 0 where
+-- a name without a colon, by its characters
+pub record IsPlain (name : List ℕ) : Type 0 where
   pub first : ℕ
   pub others : List ℕ
   pub starts : is_start (kind_of first) ≡ true
   pub goes_on : list_all (λ c. is_name (kind_of c)) others ≡ true
   pub spelt : encode_utf8_all (first ∷ others) ≡ name
+
+-- one that declares no namespace
+pub record IsPlainName (name : List ℕ) : Type 0 where
+  pub plain : IsPlain name
   pub no_declaration : name ≢ codes "xmlns"
 
 -- a namespace that is none, or declared
