@@ -3,6 +3,7 @@ pub mod Leading
 pub mod NamesAgain
 pub mod TextsAgain
 pub mod TagsAgain
+pub mod ScopesAgain
 pub mod Escaping
 pub mod Opened
 pub mod WrittenElements
