@@ -4,6 +4,7 @@ pub mod NamesAgain
 pub mod TextsAgain
 pub mod TagsAgain
 pub mod ScopesAgain
+pub mod ElementsAgain
 pub mod Escaping
 pub mod Opened
 pub mod WrittenElements
