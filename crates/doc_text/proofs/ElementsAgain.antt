@@ -4,7 +4,7 @@ use Rattle.std.specs.Prelude.{Bool, true, false, ◌&&◌, if◌then◌else◌, 
 use Rattle.std.specs.Option.{option_map_or}
 use Rattle.std.specs.List.{list_all}
 use Rattle.std.proofs.lemmas.Bool.{and_from, lt-ltb}
-use Rattle.std.proofs.lemmas.List.{append-nil}
+use Rattle.std.proofs.lemmas.List.{append-nil, map-append}
 use Rattle.atl_base.specs.declared.place.Place.{Place}
 use Rattle.atl_base.specs.XmlText.{IsXmlText}
 use Rattle.doc_text.specs.Characters.{place}
@@ -16,7 +16,7 @@ use Rattle.doc_text.specs.Namespaces.{element, children, has_element, is_blank_t
 use Rattle.doc_text.specs.State.{Around, Before, Within, Open, opened, tags, OfStart, OfEnd, State, Inside, Epilog, InProlog, Begun, Ending, Naming, Shutting, Goes, Breaks}
 use Rattle.doc_text.specs.Steps.{step, ended, weighed, element_begins}
 use Rattle.doc_text.specs.Names.{written_name}
-use Rattle.doc_text.specs.Written.{Written, Lines, Words as WrittenWords, written_attributes, written_element, written_child, indent, contents, end_tag, lines}
+use Rattle.doc_text.specs.Written.{Written, Lines, Words as WrittenWords, written_attributes, written_element, written_child, indent, contents, end_tag, lines, lone_text}
 use Rattle.doc_text.specs.Escapes.{escaped}
 use Rattle.doc_text.specs.ReadBack.{IsPlainName, IsTag, AreElements, IsLoneText, AreChildren, IsBelow, child_layer, unplaced_layer, unplaced, unplaced_child}
 use Rattle.doc_text.specs.declared.escape.Escapes.TheVariants as escape
@@ -29,7 +29,7 @@ use Rattle.doc_text.proofs.Leading.{Leads, Reads, nothing, reads_on, reads_to, p
 use Rattle.doc_text.proofs.NamesAgain.{IsAtName, name_reads, prefix_in, All_first, All_rest}
 use Rattle.doc_text.proofs.TextsAgain.{IsInside, behind, text_reads, IsBlankBehind, is_space, blanks_read, line_reads}
 use Rattle.doc_text.proofs.TagsAgain.{IsAtTag, named_tag, AreRead, tag_reads}
-use Rattle.doc_text.proofs.ScopesAgain.{IsScope, IsReadTag, read_tag, same_bytes, Pairwise}
+use Rattle.doc_text.proofs.ScopesAgain.{IsScope, IsReadTag, read_tag, same_bytes, Pairwise, Each, each_from, each_more}
 use Rattle.doc_text.proofs.WrittenElements.{element_is, child_is, words_are}
 
 -- ## What is the same but for places
@@ -56,6 +56,13 @@ same_element outer e t cs r h =
     ∙ ap (λ a. made e.space e.name e.declared a (map unplaced_child cs)) r.attributes
     ∙ ap (made e.space e.name e.declared e.attributes) h
     ∙ sym (unplaced_is e)
+
+-- an element's lines behind its indent
+abbrev pub written_tail : List Prefix → Element → ℕ → List ℕ
+written_tail ds e depth = (codes "<" ++ (written_name ds e.space e.name ++ written_attributes ds e.declared e.attributes)) ++ contents (end_tag ds e.space e.name) depth (map (written_child ds) e.children)
+
+pub tail_is : (ds : List Prefix) (e : Element) (depth : ℕ) → written_element ds e depth ≡ indent depth ++ written_tail ds e depth
+tail_is ds e depth = element_is ds e depth ∙ append_assoc (indent depth) (codes "<" ++ (written_name ds e.space e.name ++ written_attributes ds e.declared e.attributes)) (contents (end_tag ds e.space e.name) depth (map (written_child ds) e.children))
 
 -- ## Where an element ends
 
@@ -88,3 +95,136 @@ module _ (ds : List Prefix) (plain : All (λ d. IsPlainName d.prefix) ds) where
       matches : (n : Name) → n.prefix ≡ prefix_in ds e.space → n.local ≡ e.name → (if same_name n f.tag.name then Goes (ended fs (Node f.tag f.children)) else Breaks MismatchedEnd n.at) ≡ Goes (ended fs (Node f.tag f.children))
       matches n a b = ap (λ c. if c then Goes (ended fs (Node f.tag f.children)) else Breaks MismatchedEnd n.at)
           (ap (same_name n) is ∙ and_from _ _ (ap (λ m. bytes_eq m (prefix_in ds e.space)) a ∙ same_bytes (prefix_in ds e.space)) (ap (λ m. bytes_eq m e.name) b ∙ same_bytes e.name))
+
+  -- ## Contents
+
+  module _ (fs : List Open) (e : Element) (tag : IsTag ds e) (p q : Place) (ps : List Pair) (r : IsReadTag (tags fs) e (start p (called q (prefix_in ds e.space) e.name) ps)) where
+    abbrev t : Start
+    t = start p (called q (prefix_in ds e.space) e.name) ps
+
+    abbrev closing : List ℕ
+    closing = end_tag ds e.space e.name
+
+    judged_well : weighed true (tag_fault (tags fs) t) (Goes (Inside 0 (opened t Nil) fs)) ≡ Goes (Inside 0 (opened t Nil) fs)
+    judged_well = ap (λ f. weighed true f (Goes (Inside 0 (opened t Nil) fs))) r.sound
+
+    -- an element without children
+    empty_reads : (u : State) → e.children ≡ [] → IsAtTag fs t u → Reads u (codes "/>\n") (IsRead fs e)
+    empty_reads u none h =
+        reads_on u (codes "/>") (codes "\n") (λ w. w ≡ ended fs (Node t Nil)) _
+          (plainly u (codes "/>") _ refl (λ p. (Shutting fs t, h.slash p, λ q. (ended fs (Node t Nil), ap (λ f. weighed true f (Goes (ended fs (Node t Nil)))) r.sound, refl))))
+          (λ w g. subst (λ s. Reads s (codes "\n") (IsRead fs e)) (sym g)
+            (reads_to (ended fs (Node t Nil)) (codes "\n") _ _ (line_ends fs t Nil) (λ z k. (t, Nil, same_element (tags fs) e t [] r (sym (ap (map unplaced_child) none)), k))))
+
+    -- its end tag, behind these children
+    closes : (us : Trees) (u : State) → map unplaced_child (children (t ∷ tags fs) (has_element us) us) ≡ map unplaced_child e.children → IsInside fs (opened t us) u → Reads u closing (IsRead fs e)
+    closes us u same h = reads_to u closing _ _ (end_reads fs (opened t us) e q u tag refl h) (λ w k. (t, us, same_element (tags fs) e t (children (t ∷ tags fs) (has_element us) us) r same, k))
+
+    -- a text alone
+    lone_reads : (text : List ℕ) (u : State) → child.Words text ∷ [] ≡ e.children → text ≢ [] → IsXmlText text → IsAtTag fs t u → Reads u (codes ">" ++ (flat_map (escaped escape.Text) text ++ closing)) (IsRead fs e)
+    lone_reads text u is some x h =
+        reads_on u (codes ">") (flat_map (escaped escape.Text) text ++ closing) (λ w. w ≡ Inside 0 (opened t Nil) fs) _
+          (plainly u (codes ">") _ refl (λ p. (Inside 0 (opened t Nil) fs, h.greater p ∙ judged_well, refl)))
+          (λ w g. subst (λ s. Reads s (flat_map (escaped escape.Text) text ++ closing) (IsRead fs e)) (sym g)
+            (reads_on (Inside 0 (opened t Nil) fs) (flat_map (escaped escape.Text) text) closing _ _ (text_reads fs text 0 t some x) (λ s k.
+              closes (Also Nil (Words text)) s (ap (map unplaced_child) is) k)))
+
+    -- ## Elements alone
+
+    abbrev now : List Start
+    now = t ∷ tags fs
+
+    -- a child on a line of its own, wherever it stands among these
+    abbrev pub ChildReads : ℕ → Element → Type 0
+    ChildReads depth x = (ts : Trees) (words : List ℕ) (j : ℕ) → Reads (Inside j (behind fs t ts words) fs) (written_tail ds x depth) (IsRead (behind fs t ts words ∷ fs) x)
+
+    -- behind children that are as these, with blanks
+    abbrev Holds : Bool → List Child → State → Type 0
+    Holds some cs u = (ts : Trees) × (map unplaced_child (children now true ts) ≡ cs) × (has_element ts ≡ some) × IsBlankBehind fs t ts u
+
+    spaces : (n : ℕ) → list_all (is_space fs) (replicate n 32) ≡ true
+    spaces zero = refl
+    spaces (suc n) = spaces n
+
+    child_reads : (depth : ℕ) (some : Bool) (cs : List Child) (x : Element) (u : State) → ChildReads depth x → Holds some cs u → Reads u (written_element ds x depth) (Holds true (cs ++ (child.Sub (unplaced x) ∷ [])))
+    child_reads depth some cs x u f h =
+        subst (λ l. Reads u l (Holds true (cs ++ (child.Sub (unplaced x) ∷ [])))) (sym (tail_is ds x depth))
+          (reads_on u (indent depth) (written_tail ds x depth) _ _ (blanks_read fs (indent depth) t h.0 u (spaces (2 * depth)) h.3) (λ w b.
+            subst (λ s. Reads s (written_tail ds x depth) (Holds true (cs ++ (child.Sub (unplaced x) ∷ [])))) (sym b.2.1)
+              (reads_to (Inside b.2.0 (behind fs t h.0 b.0) fs) (written_tail ds x depth) _ _ (f h.0 b.0 b.2.0) (λ z k.
+                (Also (Also h.0 (Words b.0)) (Node k.0 k.1), more b.0 b.1 k.0 k.1 k.2, refl, k.3)))))
+      where
+        more : (words : List ℕ) → is_blank_text words ≡ true → (t' : Start) (us : Trees) → unplaced (element now t' (children (t' ∷ now) (has_element us) us)) ≡ unplaced x →
+            map unplaced_child (children now true (Also (Also h.0 (Words words)) (Node t' us))) ≡ cs ++ (child.Sub (unplaced x) ∷ [])
+        more words blank t' us same =
+            ap (λ b. map unplaced_child ((children now true h.0 ++ (if b then [] else child.Words words ∷ [])) ++ (child.Sub (element now t' (children (t' ∷ now) (has_element us) us)) ∷ []))) blank
+            ∙ ap (λ l. map unplaced_child (l ++ (child.Sub (element now t' (children (t' ∷ now) (has_element us) us)) ∷ []))) (append-nil (children now true h.0))
+            ∙ map-append unplaced_child (children now true h.0) (child.Sub (element now t' (children (t' ∷ now) (has_element us) us)) ∷ [])
+            ∙ ap (λ l. l ++ (unplaced_child (child.Sub (element now t' (children (t' ∷ now) (has_element us) us))) ∷ [])) h.1
+            ∙ ap (λ c. cs ++ (c ∷ [])) (unplaced_sub (element now t' (children (t' ∷ now) (has_element us) us)) ∙ ap child.Sub same)
+
+    line_is : (depth : ℕ) (x : Element) → lines depth (written_child ds (child.Sub x)) ≡ written_element ds x depth
+    line_is depth x = ap (lines depth) (child_is ds x)
+
+    abbrev subs : List Element → List Child
+    subs xs = map (λ x. child.Sub (unplaced x)) xs
+
+    -- more of them
+    more_read : (depth : ℕ) (xs : List Element) (cs : List Child) (u : State) → Each (ChildReads depth) xs → Holds true cs u → Reads u (flat_map (lines depth) (map (written_child ds) (map child.Sub xs))) (Holds true (cs ++ subs xs))
+    more_read depth [] cs u f h = nothing u _ (subst (λ l. Holds true l u) (sym (append-nil cs)) h)
+    more_read depth (x ∷ xs) cs u f h =
+        subst (λ l. Reads u (l ++ flat_map (lines depth) (map (written_child ds) (map child.Sub xs))) (Holds true (cs ++ subs (x ∷ xs)))) (sym (line_is depth x))
+          (reads_on u (written_element ds x depth) (flat_map (lines depth) (map (written_child ds) (map child.Sub xs))) _ _ (child_reads depth true cs x u f.0 h) (λ w k.
+            reads_to w (flat_map (lines depth) (map (written_child ds) (map child.Sub xs))) _ _ (more_read depth xs (cs ++ (child.Sub (unplaced x) ∷ [])) w f.1 k) (λ z g.
+              subst (λ l. Holds true l z) (append_assoc cs (child.Sub (unplaced x) ∷ []) (subs xs)) g)))
+
+    subs_are : (xs : List Element) → subs xs ≡ map unplaced_child (map child.Sub xs)
+    subs_are [] = refl
+    subs_are (x ∷ xs) = ap (λ c. c ∷ subs xs) (sym (unplaced_sub x)) ∙ ap (λ l. unplaced_child (child.Sub x) ∷ l) (subs_are xs)
+
+    -- the end tag behind them, on a line of its own
+    last_reads : (depth : ℕ) (xs : List Element) (u : State) → map child.Sub xs ≡ e.children → Holds true (subs xs) u → Reads u (indent depth ++ closing) (IsRead fs e)
+    last_reads depth xs u is h =
+        reads_on u (indent depth) closing _ _ (blanks_read fs (indent depth) t h.0 u (spaces (2 * depth)) h.3) (λ w b.
+          closes (Also h.0 (Words b.0)) w (blank b.0 b.1 ∙ h.1 ∙ subs_are xs ∙ ap (map unplaced_child) is) b.2)
+      where
+        blank : (words : List ℕ) → is_blank_text words ≡ true → map unplaced_child (children now (has_element (Also h.0 (Words words))) (Also h.0 (Words words))) ≡ map unplaced_child (children now true h.0)
+        blank words k =
+            ap (λ s. map unplaced_child (children now s h.0 ++ (if s && is_blank_text words then [] else child.Words words ∷ []))) h.2
+            ∙ ap (λ b. map unplaced_child (children now true h.0 ++ (if b then [] else child.Words words ∷ []))) k
+            ∙ ap (map unplaced_child) (append-nil (children now true h.0))
+
+    lines_read : (depth : ℕ) (x : Element) (xs : List Element) (u : State) → Each (ChildReads (suc depth)) (x ∷ xs) → map child.Sub (x ∷ xs) ≡ e.children → IsAtTag fs t u →
+        Reads u (codes ">\n" ++ (flat_map (lines (suc depth)) (map (written_child ds) (map child.Sub (x ∷ xs))) ++ (indent depth ++ closing))) (IsRead fs e)
+    lines_read depth x xs u f is h =
+        reads_on u (codes ">\n") (flat_map (lines (suc depth)) (map (written_child ds) (map child.Sub (x ∷ xs))) ++ (indent depth ++ closing)) (Holds false []) _ begins (λ w k.
+          reads_on w (flat_map (lines (suc depth)) (map (written_child ds) (map child.Sub (x ∷ xs)))) (indent depth ++ closing) _ _ (all w k) (λ s g. last_reads depth (x ∷ xs) s is g))
+      where
+        begins : Reads u (codes ">\n") (Holds false [])
+        begins = reads_on u (codes ">") (codes "\n") (λ w. w ≡ Inside 0 (opened t Nil) fs) _
+            (plainly u (codes ">") _ refl (λ p. (Inside 0 (opened t Nil) fs, h.greater p ∙ judged_well, refl)))
+            (λ w g. subst (λ s. Reads s (codes "\n") (Holds false [])) (sym g) (reads_to (Inside 0 (opened t Nil) fs) (codes "\n") _ _ (line_reads fs 0 t Nil (λ b. refl)) (λ z k. (Nil, refl, refl, k))))
+
+        all : (w : State) → Holds false [] w → Reads w (flat_map (lines (suc depth)) (map (written_child ds) (map child.Sub (x ∷ xs)))) (Holds true (subs (x ∷ xs)))
+        all w k =
+            subst (λ l. Reads w (l ++ flat_map (lines (suc depth)) (map (written_child ds) (map child.Sub xs))) (Holds true (subs (x ∷ xs)))) (sym (line_is (suc depth) x))
+              (reads_on w (written_element ds x (suc depth)) (flat_map (lines (suc depth)) (map (written_child ds) (map child.Sub xs))) _ _ (child_reads (suc depth) false [] x w f.0 k) (λ z g.
+                more_read (suc depth) xs (child.Sub (unplaced x) ∷ []) z f.1 g))
+
+    abbrev written_contents : ℕ → List Child → List ℕ
+    written_contents depth cs = contents closing depth (map (written_child ds) cs)
+
+    -- all that follows a start tag
+    pub contents_read : (depth : ℕ) (P : Element → Type 0) → ((x : Element) → P x → ChildReads (suc depth) x) → AreChildren P e.children → (u : State) → IsAtTag fs t u → Reads u (written_contents depth e.children) (IsRead fs e)
+    contents_read depth P f (inl c) u h = on c.0 c.1 (each_from P c.0 c.2)
+      where
+        on : (xs : List Element) → map child.Sub xs ≡ e.children → Each P xs → Reads u (written_contents depth e.children) (IsRead fs e)
+        on [] is k = subst (λ cs. Reads u (written_contents depth cs) (IsRead fs e)) is (empty_reads u (sym is) h)
+        on (x ∷ xs) is k =
+            subst (λ cs. Reads u (written_contents depth cs) (IsRead fs e)) is
+              (subst (λ o. Reads u (option_map_or (λ text. codes ">" ++ (flat_map (escaped escape.Text) text ++ closing)) o (codes ">\n" ++ (flat_map (lines (suc depth)) (map (written_child ds) (map child.Sub (x ∷ xs))) ++ (indent depth ++ closing)))) (IsRead fs e))
+                (sym (ap (λ w. lone_text (w ∷ map (written_child ds) (map child.Sub xs))) (child_is ds x)))
+                (lines_read depth x xs u (each_more P (ChildReads (suc depth)) f (x ∷ xs) k) is h))
+    contents_read depth P f (inr c) u h =
+        subst (λ cs. Reads u (written_contents depth cs) (IsRead fs e)) c.1
+          (subst (λ w. Reads u (contents closing depth (w ∷ [])) (IsRead fs e)) (sym (words_are ds c.0)) (lone_reads c.0 u c.1 c.2 c.3 h))
