@@ -1,6 +1,6 @@
 -- Written elements are read again, with what stands in them.
 use Rattle.std.proofs.Common.{◌≡◌, ◌≢◌, ℕ, zero, suc, ◌+◌, ◌*◌, ◌≤◌, ◌<◌, ◌⊎◌, inl, inr, List, [], ◌∷◌, ◌++◌, length, refl, sym, ap, ◌∙◌, subst, append_assoc, arith}
-use Rattle.std.specs.Prelude.{Bool, true, false, ◌&&◌, if◌then◌else◌, codes, map, All, AllPairs, flat_map, nat_lt, bytes_eq, replicate, Option, Some, None}
+use Rattle.std.specs.Prelude.{Bool, true, false, ◌&&◌, if◌then◌else◌, codes, map, filter, not, All, AllPairs, flat_map, nat_lt, bytes_eq, replicate, Option, Some, None}
 use Rattle.std.specs.Option.{option_map_or}
 use Rattle.std.specs.List.{list_all}
 use Rattle.std.proofs.lemmas.Bool.{and_from, lt-ltb}
@@ -10,15 +10,15 @@ use Rattle.atl_base.specs.XmlText.{IsXmlText}
 use Rattle.doc_text.specs.Characters.{place}
 use Rattle.doc_text.specs.Symbols.{Less, Greater, Slash, Letter, utf8}
 use Rattle.doc_text.specs.Raw.{Name, called, Pair, Start, start, Tree, Trees, Nil, Also, Node, Words, same_name, add_text}
-use Rattle.doc_text.specs.Faults.{MismatchedEnd}
+use Rattle.doc_text.specs.Faults.{MismatchedEnd, TooDeep}
 use Rattle.doc_text.specs.Conditions.{is_shallow}
 use Rattle.doc_text.specs.Namespaces.{element, children, has_element, is_blank_text, tag_fault, attributes_of, declared_of, uri_of, or_empty}
 use Rattle.doc_text.specs.State.{Around, Before, Within, Open, opened, tags, OfStart, OfEnd, State, Inside, Epilog, InProlog, Begun, Ending, Naming, Shutting, Goes, Breaks}
 use Rattle.doc_text.specs.Steps.{step, ended, weighed, element_begins}
 use Rattle.doc_text.specs.Names.{written_name}
-use Rattle.doc_text.specs.Written.{Written, Lines, Words as WrittenWords, written_attributes, written_element, written_child, indent, contents, end_tag, lines, lone_text}
+use Rattle.doc_text.specs.Written.{Written, Lines, Words as WrittenWords, written_attributes, written_element, written_child, is_version, indent, contents, end_tag, lines, lone_text}
 use Rattle.doc_text.specs.Escapes.{escaped}
-use Rattle.doc_text.specs.ReadBack.{IsPlainName, IsTag, AreElements, IsLoneText, AreChildren, IsBelow, child_layer, unplaced_layer, unplaced, unplaced_child}
+use Rattle.doc_text.specs.ReadBack.{IsPlainName, IsAttribute, IsTag, AreElements, IsLoneText, AreChildren, IsBelow, child_layer, unplaced_layer, unplaced, unplaced_child}
 use Rattle.doc_text.specs.declared.escape.Escapes.TheVariants as escape
 use Rattle.doc_text.specs.declared.tree.Attribute.{Attribute}
 use Rattle.doc_text.specs.declared.tree.Prefix.{Prefix}
@@ -28,8 +28,8 @@ use Rattle.doc_text.specs.declared.tree.Child.TheVariants as child
 use Rattle.doc_text.proofs.Leading.{Leads, Reads, nothing, reads_on, reads_to, plainly}
 use Rattle.doc_text.proofs.NamesAgain.{IsAtName, name_reads, prefix_in, All_first, All_rest}
 use Rattle.doc_text.proofs.TextsAgain.{IsInside, behind, text_reads, IsBlankBehind, is_space, blanks_read, line_reads}
-use Rattle.doc_text.proofs.TagsAgain.{IsAtTag, named_tag, AreRead, tag_reads}
-use Rattle.doc_text.proofs.ScopesAgain.{IsScope, IsReadTag, read_tag, same_bytes, Pairwise, Each, each_from, each_more}
+use Rattle.doc_text.proofs.TagsAgain.{IsAtTag, IsPairOfDeclaration, Match, named_tag, AreRead, tag_reads}
+use Rattle.doc_text.proofs.ScopesAgain.{IsScope, IsReadTag, read_tag, same_bytes, Pairwise, Each, each_from, each_to, each_left, each_right, each_more, v_nothing, o_nothing, below_scope, root_scope}
 use Rattle.doc_text.proofs.WrittenElements.{element_is, child_is, words_are}
 
 -- ## What is the same but for places
@@ -228,3 +228,73 @@ module _ (ds : List Prefix) (plain : All (λ d. IsPlainName d.prefix) ds) where
     contents_read depth P f (inr c) u h =
         subst (λ cs. Reads u (written_contents depth cs) (IsRead fs e)) c.1
           (subst (λ w. Reads u (contents closing depth (w ∷ [])) (IsRead fs e)) (sym (words_are ds c.0)) (lone_reads c.0 u c.1 c.2 c.3 h))
+
+  -- ## Elements
+
+  -- from this state an element begins, among these open ones
+  pub record Opens (fs : List Open) (a : Around) (s : State) : Type 0 where
+    pub less : (p : Place) → step true s Less p ≡ Goes (Begun a p)
+    pub letter : (c : ℕ) (p q : Place) → element_begins true a p (Letter c) q ≡ Goes (Naming (OfStart fs p) q (utf8 (Letter c)))
+
+  module _ (fs : List Open) (a : Around) (s : State) (opens : Opens fs a s) (e : Element) (tag : IsTag ds e)
+      (prefixes : All (λ d. IsPlainName d.prefix) e.declared) (uris : All (λ d. IsXmlText d.uri) e.declared) (differ : Pairwise (λ c d. c.prefix ≢ d.prefix) e.declared) where
+    abbrev IsOpened : State → Type 0
+    IsOpened u = (p : Place) × (q : Place) × (ps : List Pair) × AreRead ds e.declared e.attributes ps × IsAtTag fs (start p (called q (prefix_in ds e.space) e.name) ps) u
+
+    abbrev InForce : Type 0
+    InForce = (p q : Place) (ps : List Pair) → AreRead ds e.declared e.attributes ps → IsScope ds (start p (called q (prefix_in ds e.space) e.name) ps ∷ tags fs)
+
+    all_attributes : Each (IsAttribute ds) (filter is_version e.attributes ++ filter (λ a. not (is_version a)) e.attributes)
+    all_attributes = subst (Each (IsAttribute ds)) (sym tag.version_first) (each_from (IsAttribute ds) e.attributes tag.attributes)
+
+    opening_reads : Reads s (codes "<" ++ (written_name ds e.space e.name ++ written_attributes ds e.declared e.attributes)) IsOpened
+    opening_reads =
+        reads_on s (codes "<") (written_name ds e.space e.name ++ written_attributes ds e.declared e.attributes) (λ w. (p : Place) × (w ≡ Begun a p)) _
+          (plainly s (codes "<") _ refl (λ p. (Begun a p, opens.less p, (p, refl))))
+          (λ w b. subst (λ s. Reads s (written_name ds e.space e.name ++ written_attributes ds e.declared e.attributes) IsOpened) (sym b.1)
+            (reads_on (Begun a b.0) (written_name ds e.space e.name) (written_attributes ds e.declared e.attributes) _ _ (name_reads ds plain (Begun a b.0) (OfStart fs b.0) (λ c q. opens.letter c b.0 q) e.space e.name tag.space tag.name) (λ z n.
+              reads_to z (written_attributes ds e.declared e.attributes) _ _
+                (tag_reads ds plain fs e.declared prefixes uris e.attributes
+                  (each_to (IsAttribute ds) (filter is_version e.attributes) (each_left (IsAttribute ds) (filter is_version e.attributes) (filter (λ a. not (is_version a)) e.attributes) all_attributes))
+                  (each_to (IsAttribute ds) (filter (λ a. not (is_version a)) e.attributes) (each_right (IsAttribute ds) (filter is_version e.attributes) (filter (λ a. not (is_version a)) e.attributes) all_attributes))
+                  (start b.0 (called n.0 (prefix_in ds e.space) e.name) []) z refl (named_tag fs b.0 (called n.0 (prefix_in ds e.space) e.name) z n.1))
+                (λ y g. (b.0, n.0, g.0, g.1, g.2)))))
+
+    -- a whole element, where its children are read in any element that is as this one
+    pub whole_reads : (depth : ℕ) (P : Element → Type 0) → InForce → AreChildren P e.children →
+        ((t : Start) → IsScope ds (t ∷ tags fs) → (x : Element) → P x → (ts : Trees) (words : List ℕ) (j : ℕ) → Reads (Inside j (behind fs t ts words) fs) (written_tail ds x (suc depth)) (IsRead (behind fs t ts words ∷ fs) x)) →
+        Reads s (written_tail ds e depth) (IsRead fs e)
+    whole_reads depth P force c f =
+        reads_on s (codes "<" ++ (written_name ds e.space e.name ++ written_attributes ds e.declared e.attributes)) (contents (end_tag ds e.space e.name) depth (map (written_child ds) e.children)) _ _ opening_reads (λ u o.
+          let scope = force o.0 o.1 o.2 o.3 in
+          contents_read fs e tag o.0 o.1 o.2 (read_tag ds plain e tag (tags fs) o.0 o.1 o.2 o.3 differ scope) depth P (λ x h. f (start o.0 (called o.1 (prefix_in ds e.space) e.name) o.2) scope x h) c u o.4)
+
+  nothing_matches : (ns : List Pair) → Match IsPairOfDeclaration [] ns → ns ≡ []
+  nothing_matches [] h = refl
+  nothing_matches (n ∷ ns) h = absurd h
+
+  -- below the root
+  module _ (fs : List Open) (e : Element) (tag : IsTag ds e) (none : e.declared ≡ []) (scope : IsScope ds (tags fs)) where
+    no_prefixes : Pairwise (λ c d. c.prefix ≢ d.prefix) e.declared
+    no_prefixes = subst (Pairwise (λ c d. c.prefix ≢ d.prefix)) (sym none) tt
+
+    below_force : (p q : Place) (ps : List Pair) → AreRead ds e.declared e.attributes ps → IsScope ds (start p (called q (prefix_in ds e.space) e.name) ps ∷ tags fs)
+    below_force p q ps r =
+        let v = v_nothing ds plain e tag (tags fs) p q ps r no_prefixes in
+        let o = o_nothing ds plain e tag (tags fs) p q ps r no_prefixes in
+        let no = nothing_matches r.declarations (subst (λ l. Match IsPairOfDeclaration l r.declarations) none r.are_declarations) in
+        subst (λ l. IsScope ds (start p (called q (prefix_in ds e.space) e.name) l ∷ tags fs)) (sym (r.whole ∙ ap (λ n. r.versions ++ (n ++ r.others)) no))
+          (below_scope ds plain e.attributes r.versions r.others v o p (called q (prefix_in ds e.space) e.name) (tags fs) scope)
+
+  pub below_reads : (n : ℕ) (fs : List Open) (f : Open) → length (tags (f ∷ fs)) + n ≤ 200 → IsScope ds (tags (f ∷ fs)) → (e : Element) → IsBelow ds n e → (depth j : ℕ) → Reads (Inside j f fs) (written_tail ds e depth) (IsRead (f ∷ fs) e)
+  below_reads zero fs f le scope e b depth j = absurd b
+  below_reads (suc n) fs f le scope e b depth j =
+      whole_reads (f ∷ fs) (Within f fs) (Inside j f fs) opens e b.1 (subst (All (λ d. IsPlainName d.prefix)) (sym b.0) (λ k d l. absurd (omega (arith, l)))) (subst (All (λ d. IsXmlText d.uri)) (sym b.0) (λ k d l. absurd (omega (arith, l)))) (no_prefixes (f ∷ fs) e b.1 b.0 scope)
+        depth (λ x. IsBelow ds n x) (below_force (f ∷ fs) e b.1 b.0 scope) b.2
+        (λ t s x h ts words i. below_reads n (f ∷ fs) (behind (f ∷ fs) t ts words) (omega (arith, le)) s x h (suc depth) i)
+    where
+      opens : Opens (f ∷ fs) (Within f fs) (Inside j f fs)
+      opens = record {
+        less = λ p. refl;
+        letter = λ c p q. ap (λ b. if b then Goes (Naming (OfStart (f ∷ fs) p) q (utf8 (Letter c))) else Breaks TooDeep p) (lt-ltb (length (tags (f ∷ fs))) 200 (omega (arith, le)));
+      }

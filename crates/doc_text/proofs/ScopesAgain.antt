@@ -235,7 +235,7 @@ module _ (ds : List Prefix) (plain : All (λ d. IsPlainName d.prefix) ds) (attri
   root_uri p = uri_of p []
 
   -- those of the root are declared there
-  root_scope : (q : Place) (n : Name) (ns : List Pair) → Match IsPairOfDeclaration ds ns → AllPairs (λ c d. c.prefix ≢ d.prefix) ds → IsScope ds (start q n (vs ++ (ns ++ os)) ∷ [])
+  pub root_scope : (q : Place) (n : Name) (ns : List Pair) → Match IsPairOfDeclaration ds ns → AllPairs (λ c d. c.prefix ≢ d.prefix) ds → IsScope ds (start q n (vs ++ (ns ++ os)) ∷ [])
   root_scope q n ns h differ = record {
     none = no_uri [] (Some []) vs (ns ++ os) v ∙ other_uris [] (Some []) ds ns os h (no_empty ds plain) ∙ no_uris [] (Some []) os o;
     each = each_to (λ d. own_uri d.prefix (vs ++ (ns ++ os)) (root_uri d.prefix) ≡ Some d.uri) ds (each_more _ _ (λ d e. no_uri d.prefix (root_uri d.prefix) vs (ns ++ os) v ∙ e) ds (own_uris root_uri ds ns os h (pairwise_from _ ds differ)));
@@ -248,7 +248,7 @@ module _ (ds : List Prefix) (plain : All (λ d. IsPlainName d.prefix) ds) (attri
   same_uri : (q : Place) (n : Name) (outer : List Start) (p : List ℕ) → uri_of p (start q n (vs ++ ([] ++ os)) ∷ outer) ≡ uri_of p outer
   same_uri q n outer p = no_uri p (uri_of p outer) vs os v ∙ no_uris p (uri_of p outer) os o
 
-  below_scope : (q : Place) (n : Name) (outer : List Start) → IsScope ds outer → IsScope ds (start q n (vs ++ ([] ++ os)) ∷ outer)
+  pub below_scope : (q : Place) (n : Name) (outer : List Start) → IsScope ds outer → IsScope ds (start q n (vs ++ ([] ++ os)) ∷ outer)
   below_scope q n outer s = record {
     none = same_uri q n outer [] ∙ s.none;
     each = λ k d l. same_uri q n outer _ ∙ s.each k d l;
