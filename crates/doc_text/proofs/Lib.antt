@@ -5,6 +5,7 @@ pub mod TextsAgain
 pub mod TagsAgain
 pub mod ScopesAgain
 pub mod ElementsAgain
+pub mod Again
 pub mod Escaping
 pub mod Opened
 pub mod WrittenElements
