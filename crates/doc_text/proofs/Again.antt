@@ -1,37 +1,35 @@
 -- A written document is read again, to the same root up to places.
-use Rattle.std.proofs.Common.{◌≡◌, ◌≢◌, ℕ, ◌+◌, List, [], ◌∷◌, ◌++◌, length, take, refl, sym, ap, ◌∙◌, subst, append_assoc, arith}
-use Rattle.std.specs.Prelude.{Bool, true, false, ◌&&◌, ◌==◌, not, if◌then◌else◌, codes, encode_utf8_all, Option, Some, All}
+use Rattle.std.proofs.Common.{◌≡◌, ◌≢◌, ℕ, ◌+◌, List, [], ◌∷◌, ◌++◌, length, take, refl, sym, ap, ◌∙◌, subst, arith}
+use Rattle.std.specs.Prelude.{Bool, true, false, ◌==◌, not, if◌then◌else◌, codes, encode_utf8_all, Option, Some}
 use Rattle.std.specs.List.{list_all}
 use Rattle.std.specs.Str.{chars, IsUtf8}
-use Rattle.std.specs.Str.Lossy.{utf8_valid_len}
 use Rattle.std.proofs.Math.Seq.{take-length}
 use Rattle.std.proofs.lemmas.Bool.{and_parts, and_from, not-true, eqb-true, eq-eqb}
 use Rattle.std.proofs.lemmas.List.{append-nil}
 use Rattle.std.proofs.lemmas.Str.{encode_ascii, utf8_valid_len-IsUtf8, chars_from_encodes}
 use Rattle.atl_base.specs.declared.place.Place.{Place}
-use Rattle.atl_base.specs.XmlText.{is_xml_character, IsXmlText}
+use Rattle.atl_base.specs.XmlText.{is_xml_character}
 use Rattle.atl_base.proofs.XmlTexts.{IsUtf8-from_text}
-use Rattle.doc_text.specs.Characters.{place, placed, end_place, end_of, symbols, decoded, characters, no_character}
+use Rattle.doc_text.specs.Characters.{place, placed, end_of, decoded, characters, no_character}
 use Rattle.doc_text.specs.Encodings.{Utf8}
 use Rattle.doc_text.specs.Symbols.{Blank, Letter, Joint, Dash, Quote, Symbol, mark, kind_of, utf8}
-use Rattle.doc_text.specs.Raw.{Name, called, Pair, Node, start, Trees}
-use Rattle.doc_text.specs.State.{Before, First, State, Beginning, Declaring, Untold, Targeting, Encoding, Stated, ToldEncoding, Goes, InProlog, Epilog, Within}
+use Rattle.doc_text.specs.Raw.{called, Pair, start}
+use Rattle.doc_text.specs.State.{Before, First, State, Beginning, Declaring, Untold, Targeting, Encoding, Stated, ToldEncoding, Goes, InProlog}
 use Rattle.doc_text.specs.Steps.{step, targeted, encoded}
-use Rattle.doc_text.specs.Machine.{End, Read, after, reason, finish, run, read}
+use Rattle.doc_text.specs.Machine.{finish, run, read}
 use Rattle.doc_text.specs.Namespaces.{resolved}
-use Rattle.doc_text.specs.Reading.{Gives, read_bytes}
-use Rattle.doc_text.specs.Written.{declaration, written, written_element, indent}
-use Rattle.doc_text.specs.ReadBack.{IsWritable, IsBelow, IsReadBack, unplaced, IsPlainName}
+use Rattle.doc_text.specs.Reading.{Gives}
+use Rattle.doc_text.specs.Written.{declaration, written, written_element}
+use Rattle.doc_text.specs.ReadBack.{IsWritable, IsBelow, IsReadBack}
 use Rattle.doc_text.specs.declared.tree.Doc.{Doc}
 use Rattle.doc_text.specs.declared.tree.Prefix.{Prefix}
-use Rattle.doc_text.specs.declared.tree.Element.{Element}
 use Rattle.doc_text.proofs.Leading.{Leads, Reads, reads_on, plainly, is_written}
 use Rattle.doc_text.proofs.NamesAgain.{prefix_in}
 use Rattle.doc_text.proofs.TextsAgain.{behind}
 use Rattle.doc_text.proofs.TagsAgain.{AreRead}
 use Rattle.doc_text.proofs.ScopesAgain.{IsScope, pairwise_from, root_scope, v_nothing, o_nothing}
-use Rattle.doc_text.proofs.ElementsAgain.{IsRead, Opens, tail_is, written_tail, whole_reads, below_reads}
-use Rattle.doc_text.proofs.Runs.{steps, true-false, false-true}
+use Rattle.doc_text.proofs.ElementsAgain.{IsRead, Opens, tail_is, whole_reads, below_reads}
+use Rattle.doc_text.proofs.Runs.{steps, true-false}
 
 -- ## The declaration
 
@@ -65,12 +63,12 @@ module _ (doc : Doc) (w : IsWritable doc) where
       let v = v_nothing ds w.prefixes doc.root w.tag [] p q ps r d in
       let o = o_nothing ds w.prefixes doc.root w.tag [] p q ps r d in
       subst (λ l. IsScope ds (start p (called q (prefix_in ds doc.root.space) doc.root.name) l ∷ [])) (sym r.whole)
-        (root_scope ds w.prefixes doc.root.attributes r.versions r.others v o p (called q (prefix_in ds doc.root.space) doc.root.name) r.declarations r.are_declarations w.differ)
+      (root_scope ds w.prefixes doc.root.attributes r.versions r.others v o p (called q (prefix_in ds doc.root.space) doc.root.name) r.declarations r.are_declarations w.differ)
 
   root_reads : Reads InProlog (written_element ds doc.root 0) (IsRead [] doc.root)
   root_reads = subst (λ l. Reads InProlog l (IsRead [] doc.root)) (sym (tail_is ds doc.root 0))
       (whole_reads ds w.prefixes [] Before InProlog opens doc.root w.tag w.prefixes w.uris (pairwise_from (λ c d. c.prefix ≢ d.prefix) ds w.differ) 0 (λ x. IsBelow ds 199 x) force w.children
-        (λ t s x h ts words j. below_reads ds w.prefixes 199 [] (behind [] t ts words) (omega arith) s x h 1 j))
+      (λ t s x h ts words j. below_reads ds w.prefixes 199 [] (behind [] t ts words) (omega arith) s x h 1 j))
 
   all_reads : Reads Beginning (written doc) (IsRead [] doc.root)
   all_reads = reads_on Beginning declaration (written_element ds doc.root 0) _ _ declaration_reads (λ u e. subst (λ s. Reads s (written_element ds doc.root 0) (IsRead [] doc.root)) (sym e) root_reads)

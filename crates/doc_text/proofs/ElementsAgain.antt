@@ -1,6 +1,6 @@
 -- Written elements are read again, with what stands in them.
-use Rattle.std.proofs.Common.{◌≡◌, ◌≢◌, ℕ, zero, suc, ◌+◌, ◌*◌, ◌≤◌, ◌<◌, ◌⊎◌, inl, inr, List, [], ◌∷◌, ◌++◌, length, refl, sym, ap, ◌∙◌, subst, append_assoc, arith}
-use Rattle.std.specs.Prelude.{Bool, true, false, ◌&&◌, if◌then◌else◌, codes, map, filter, not, All, AllPairs, flat_map, nat_lt, bytes_eq, replicate, Option, Some, None}
+use Rattle.std.proofs.Common.{◌≡◌, ◌≢◌, ℕ, zero, suc, ◌+◌, ◌*◌, ◌≤◌, inl, inr, List, [], ◌∷◌, ◌++◌, length, refl, sym, ap, ◌∙◌, subst, append_assoc, arith}
+use Rattle.std.specs.Prelude.{Bool, true, false, ◌&&◌, if◌then◌else◌, codes, map, filter, not, All, flat_map, bytes_eq, replicate}
 use Rattle.std.specs.Option.{option_map_or}
 use Rattle.std.specs.List.{list_all}
 use Rattle.std.proofs.lemmas.Bool.{and_from, lt-ltb}
@@ -8,28 +8,27 @@ use Rattle.std.proofs.lemmas.List.{append-nil, map-append}
 use Rattle.atl_base.specs.declared.place.Place.{Place}
 use Rattle.atl_base.specs.XmlText.{IsXmlText}
 use Rattle.doc_text.specs.Characters.{place}
-use Rattle.doc_text.specs.Symbols.{Less, Greater, Slash, Letter, utf8}
-use Rattle.doc_text.specs.Raw.{Name, called, Pair, Start, start, Tree, Trees, Nil, Also, Node, Words, same_name, add_text}
+use Rattle.doc_text.specs.Symbols.{Less, Greater, Letter, utf8}
+use Rattle.doc_text.specs.Raw.{Name, called, Pair, Start, start, Tree, Trees, Nil, Also, Node, Words, same_name}
 use Rattle.doc_text.specs.Faults.{MismatchedEnd, TooDeep}
-use Rattle.doc_text.specs.Conditions.{is_shallow}
-use Rattle.doc_text.specs.Namespaces.{element, children, has_element, is_blank_text, tag_fault, attributes_of, declared_of, uri_of, or_empty}
-use Rattle.doc_text.specs.State.{Around, Before, Within, Open, opened, tags, OfStart, OfEnd, State, Inside, Epilog, InProlog, Begun, Ending, Naming, Shutting, Goes, Breaks}
+use Rattle.doc_text.specs.Namespaces.{element, children, has_element, is_blank_text, tag_fault, attributes_of, declared_of}
+use Rattle.doc_text.specs.State.{Around, Within, Open, opened, tags, OfStart, OfEnd, State, Inside, Epilog, Begun, Ending, Naming, Shutting, Goes, Breaks}
 use Rattle.doc_text.specs.Steps.{step, ended, weighed, element_begins}
 use Rattle.doc_text.specs.Names.{written_name}
-use Rattle.doc_text.specs.Written.{Written, Lines, Words as WrittenWords, written_attributes, written_element, written_child, is_version, indent, contents, end_tag, lines, lone_text}
+use Rattle.doc_text.specs.Written.{written_attributes, written_element, written_child, is_version, indent, contents, end_tag, lines, lone_text}
 use Rattle.doc_text.specs.Escapes.{escaped}
-use Rattle.doc_text.specs.ReadBack.{IsPlainName, IsAttribute, IsTag, AreElements, IsLoneText, AreChildren, IsBelow, child_layer, unplaced_layer, unplaced, unplaced_child}
+use Rattle.doc_text.specs.ReadBack.{IsPlainName, IsAttribute, IsTag, AreChildren, IsBelow, child_layer, unplaced_layer, unplaced, unplaced_child}
 use Rattle.doc_text.specs.declared.escape.Escapes.TheVariants as escape
 use Rattle.doc_text.specs.declared.tree.Attribute.{Attribute}
 use Rattle.doc_text.specs.declared.tree.Prefix.{Prefix}
 use Rattle.doc_text.specs.declared.tree.Element.{Element, fold_out-Element}
 use Rattle.doc_text.specs.declared.tree.Child.{Child, map-Child, fold_out-Child}
 use Rattle.doc_text.specs.declared.tree.Child.TheVariants as child
-use Rattle.doc_text.proofs.Leading.{Leads, Reads, nothing, reads_on, reads_to, plainly}
-use Rattle.doc_text.proofs.NamesAgain.{IsAtName, name_reads, prefix_in, All_first, All_rest}
+use Rattle.doc_text.proofs.Leading.{Reads, nothing, reads_on, reads_to, plainly}
+use Rattle.doc_text.proofs.NamesAgain.{name_reads, prefix_in}
 use Rattle.doc_text.proofs.TextsAgain.{IsInside, behind, text_reads, IsBlankBehind, is_space, blanks_read, line_reads}
 use Rattle.doc_text.proofs.TagsAgain.{IsAtTag, IsPairOfDeclaration, Match, named_tag, AreRead, tag_reads}
-use Rattle.doc_text.proofs.ScopesAgain.{IsScope, IsReadTag, read_tag, same_bytes, Pairwise, Each, each_from, each_to, each_left, each_right, each_more, v_nothing, o_nothing, below_scope, root_scope}
+use Rattle.doc_text.proofs.ScopesAgain.{IsScope, IsReadTag, read_tag, same_bytes, Pairwise, Each, each_from, each_to, each_left, each_right, each_more, v_nothing, o_nothing, below_scope}
 use Rattle.doc_text.proofs.WrittenElements.{element_is, child_is, words_are}
 
 -- ## What is the same but for places
@@ -84,13 +83,13 @@ module _ (ds : List Prefix) (plain : All (λ d. IsPlainName d.prefix) ds) where
   end_reads : (fs : List Open) (f : Open) (e : Element) (q : Place) (u : State) → IsTag ds e → f.tag.name ≡ called q (prefix_in ds e.space) e.name → IsInside fs f u → Reads u (end_tag ds e.space e.name) (IsPastLine fs (Node f.tag f.children))
   end_reads fs f e q u tag is h =
       subst (λ s. Reads s (end_tag ds e.space e.name) (IsPastLine fs (Node f.tag f.children))) (sym h.1)
-        (reads_on (Inside h.0 f fs) (codes "</") (written_name ds e.space e.name ++ codes ">\n") (λ w. w ≡ Ending f fs) _
-          (plainly (Inside h.0 f fs) (codes "</") _ refl (λ p. (Begun (Within f fs) p, refl, λ r. (Ending f fs, refl, refl))))
-          (λ w g. subst (λ s. Reads s (written_name ds e.space e.name ++ codes ">\n") (IsPastLine fs (Node f.tag f.children))) (sym g)
-            (reads_on (Ending f fs) (written_name ds e.space e.name) (codes ">\n") _ _ (name_reads ds plain (Ending f fs) (OfEnd f fs) (λ c p. refl) e.space e.name tag.space tag.name) (λ s k.
-              reads_on s (codes ">") (codes "\n") (λ z. z ≡ ended fs (Node f.tag f.children)) _
-                (plainly s (codes ">") _ refl (λ p. (ended fs (Node f.tag f.children), k.1 Greater p refl ∙ matches (called k.0 (prefix_in ds e.space) e.name) refl refl, refl)))
-                (λ z x. subst (λ y. Reads y (codes "\n") (IsPastLine fs (Node f.tag f.children))) (sym x) (line_ends fs f.tag f.children))))))
+      (reads_on (Inside h.0 f fs) (codes "</") (written_name ds e.space e.name ++ codes ">\n") (λ w. w ≡ Ending f fs) _
+      (plainly (Inside h.0 f fs) (codes "</") _ refl (λ p. (Begun (Within f fs) p, refl, λ r. (Ending f fs, refl, refl))))
+      (λ w g. subst (λ s. Reads s (written_name ds e.space e.name ++ codes ">\n") (IsPastLine fs (Node f.tag f.children))) (sym g)
+      (reads_on (Ending f fs) (written_name ds e.space e.name) (codes ">\n") _ _ (name_reads ds plain (Ending f fs) (OfEnd f fs) (λ c p. refl) e.space e.name tag.space tag.name) (λ s k.
+      reads_on s (codes ">") (codes "\n") (λ z. z ≡ ended fs (Node f.tag f.children)) _
+      (plainly s (codes ">") _ refl (λ p. (ended fs (Node f.tag f.children), k.1 Greater p refl ∙ matches (called k.0 (prefix_in ds e.space) e.name) refl refl, refl)))
+      (λ z x. subst (λ y. Reads y (codes "\n") (IsPastLine fs (Node f.tag f.children))) (sym x) (line_ends fs f.tag f.children))))))
     where
       matches : (n : Name) → n.prefix ≡ prefix_in ds e.space → n.local ≡ e.name → (if same_name n f.tag.name then Goes (ended fs (Node f.tag f.children)) else Breaks MismatchedEnd n.at) ≡ Goes (ended fs (Node f.tag f.children))
       matches n a b = ap (λ c. if c then Goes (ended fs (Node f.tag f.children)) else Breaks MismatchedEnd n.at)
@@ -112,9 +111,9 @@ module _ (ds : List Prefix) (plain : All (λ d. IsPlainName d.prefix) ds) where
     empty_reads : (u : State) → e.children ≡ [] → IsAtTag fs t u → Reads u (codes "/>\n") (IsRead fs e)
     empty_reads u none h =
         reads_on u (codes "/>") (codes "\n") (λ w. w ≡ ended fs (Node t Nil)) _
-          (plainly u (codes "/>") _ refl (λ p. (Shutting fs t, h.slash p, λ q. (ended fs (Node t Nil), ap (λ f. weighed true f (Goes (ended fs (Node t Nil)))) r.sound, refl))))
-          (λ w g. subst (λ s. Reads s (codes "\n") (IsRead fs e)) (sym g)
-            (reads_to (ended fs (Node t Nil)) (codes "\n") _ _ (line_ends fs t Nil) (λ z k. (t, Nil, same_element (tags fs) e t [] r (sym (ap (map unplaced_child) none)), k))))
+        (plainly u (codes "/>") _ refl (λ p. (Shutting fs t, h.slash p, λ q. (ended fs (Node t Nil), ap (λ f. weighed true f (Goes (ended fs (Node t Nil)))) r.sound, refl))))
+        (λ w g. subst (λ s. Reads s (codes "\n") (IsRead fs e)) (sym g)
+        (reads_to (ended fs (Node t Nil)) (codes "\n") _ _ (line_ends fs t Nil) (λ z k. (t, Nil, same_element (tags fs) e t [] r (sym (ap (map unplaced_child) none)), k))))
 
     -- its end tag, behind these children
     closes : (us : Trees) (u : State) → map unplaced_child (children (t ∷ tags fs) (has_element us) us) ≡ map unplaced_child e.children → IsInside fs (opened t us) u → Reads u closing (IsRead fs e)
@@ -124,10 +123,10 @@ module _ (ds : List Prefix) (plain : All (λ d. IsPlainName d.prefix) ds) where
     lone_reads : (text : List ℕ) (u : State) → child.Words text ∷ [] ≡ e.children → text ≢ [] → IsXmlText text → IsAtTag fs t u → Reads u (codes ">" ++ (flat_map (escaped escape.Text) text ++ closing)) (IsRead fs e)
     lone_reads text u is some x h =
         reads_on u (codes ">") (flat_map (escaped escape.Text) text ++ closing) (λ w. w ≡ Inside 0 (opened t Nil) fs) _
-          (plainly u (codes ">") _ refl (λ p. (Inside 0 (opened t Nil) fs, h.greater p ∙ judged_well, refl)))
-          (λ w g. subst (λ s. Reads s (flat_map (escaped escape.Text) text ++ closing) (IsRead fs e)) (sym g)
-            (reads_on (Inside 0 (opened t Nil) fs) (flat_map (escaped escape.Text) text) closing _ _ (text_reads fs text 0 t some x) (λ s k.
-              closes (Also Nil (Words text)) s (ap (map unplaced_child) is) k)))
+        (plainly u (codes ">") _ refl (λ p. (Inside 0 (opened t Nil) fs, h.greater p ∙ judged_well, refl)))
+        (λ w g. subst (λ s. Reads s (flat_map (escaped escape.Text) text ++ closing) (IsRead fs e)) (sym g)
+        (reads_on (Inside 0 (opened t Nil) fs) (flat_map (escaped escape.Text) text) closing _ _ (text_reads fs text 0 t some x) (λ s k.
+        closes (Also Nil (Words text)) s (ap (map unplaced_child) is) k)))
 
     -- ## Elements alone
 
@@ -149,10 +148,10 @@ module _ (ds : List Prefix) (plain : All (λ d. IsPlainName d.prefix) ds) where
     child_reads : (depth : ℕ) (some : Bool) (cs : List Child) (x : Element) (u : State) → ChildReads depth x → Holds some cs u → Reads u (written_element ds x depth) (Holds true (cs ++ (child.Sub (unplaced x) ∷ [])))
     child_reads depth some cs x u f h =
         subst (λ l. Reads u l (Holds true (cs ++ (child.Sub (unplaced x) ∷ [])))) (sym (tail_is ds x depth))
-          (reads_on u (indent depth) (written_tail ds x depth) _ _ (blanks_read fs (indent depth) t h.0 u (spaces (2 * depth)) h.3) (λ w b.
-            subst (λ s. Reads s (written_tail ds x depth) (Holds true (cs ++ (child.Sub (unplaced x) ∷ [])))) (sym b.2.1)
-              (reads_to (Inside b.2.0 (behind fs t h.0 b.0) fs) (written_tail ds x depth) _ _ (f h.0 b.0 b.2.0) (λ z k.
-                (Also (Also h.0 (Words b.0)) (Node k.0 k.1), more b.0 b.1 k.0 k.1 k.2, refl, k.3)))))
+        (reads_on u (indent depth) (written_tail ds x depth) _ _ (blanks_read fs (indent depth) t h.0 u (spaces (2 * depth)) h.3) (λ w b.
+        subst (λ s. Reads s (written_tail ds x depth) (Holds true (cs ++ (child.Sub (unplaced x) ∷ [])))) (sym b.2.1)
+        (reads_to (Inside b.2.0 (behind fs t h.0 b.0) fs) (written_tail ds x depth) _ _ (f h.0 b.0 b.2.0) (λ z k.
+        (Also (Also h.0 (Words b.0)) (Node k.0 k.1), more b.0 b.1 k.0 k.1 k.2, refl, k.3)))))
       where
         more : (words : List ℕ) → is_blank_text words ≡ true → (t' : Start) (us : Trees) → unplaced (element now t' (children (t' ∷ now) (has_element us) us)) ≡ unplaced x →
             map unplaced_child (children now true (Also (Also h.0 (Words words)) (Node t' us))) ≡ cs ++ (child.Sub (unplaced x) ∷ [])
@@ -174,9 +173,9 @@ module _ (ds : List Prefix) (plain : All (λ d. IsPlainName d.prefix) ds) where
     more_read depth [] cs u f h = nothing u _ (subst (λ l. Holds true l u) (sym (append-nil cs)) h)
     more_read depth (x ∷ xs) cs u f h =
         subst (λ l. Reads u (l ++ flat_map (lines depth) (map (written_child ds) (map child.Sub xs))) (Holds true (cs ++ subs (x ∷ xs)))) (sym (line_is depth x))
-          (reads_on u (written_element ds x depth) (flat_map (lines depth) (map (written_child ds) (map child.Sub xs))) _ _ (child_reads depth true cs x u f.0 h) (λ w k.
-            reads_to w (flat_map (lines depth) (map (written_child ds) (map child.Sub xs))) _ _ (more_read depth xs (cs ++ (child.Sub (unplaced x) ∷ [])) w f.1 k) (λ z g.
-              subst (λ l. Holds true l z) (append_assoc cs (child.Sub (unplaced x) ∷ []) (subs xs)) g)))
+        (reads_on u (written_element ds x depth) (flat_map (lines depth) (map (written_child ds) (map child.Sub xs))) _ _ (child_reads depth true cs x u f.0 h) (λ w k.
+        reads_to w (flat_map (lines depth) (map (written_child ds) (map child.Sub xs))) _ _ (more_read depth xs (cs ++ (child.Sub (unplaced x) ∷ [])) w f.1 k) (λ z g.
+        subst (λ l. Holds true l z) (append_assoc cs (child.Sub (unplaced x) ∷ []) (subs xs)) g)))
 
     subs_are : (xs : List Element) → subs xs ≡ map unplaced_child (map child.Sub xs)
     subs_are [] = refl
@@ -186,7 +185,7 @@ module _ (ds : List Prefix) (plain : All (λ d. IsPlainName d.prefix) ds) where
     last_reads : (depth : ℕ) (xs : List Element) (u : State) → map child.Sub xs ≡ e.children → Holds true (subs xs) u → Reads u (indent depth ++ closing) (IsRead fs e)
     last_reads depth xs u is h =
         reads_on u (indent depth) closing _ _ (blanks_read fs (indent depth) t h.0 u (spaces (2 * depth)) h.3) (λ w b.
-          closes (Also h.0 (Words b.0)) w (blank b.0 b.1 ∙ h.1 ∙ subs_are xs ∙ ap (map unplaced_child) is) b.2)
+        closes (Also h.0 (Words b.0)) w (blank b.0 b.1 ∙ h.1 ∙ subs_are xs ∙ ap (map unplaced_child) is) b.2)
       where
         blank : (words : List ℕ) → is_blank_text words ≡ true → map unplaced_child (children now (has_element (Also h.0 (Words words))) (Also h.0 (Words words))) ≡ map unplaced_child (children now true h.0)
         blank words k =
@@ -198,7 +197,7 @@ module _ (ds : List Prefix) (plain : All (λ d. IsPlainName d.prefix) ds) where
         Reads u (codes ">\n" ++ (flat_map (lines (suc depth)) (map (written_child ds) (map child.Sub (x ∷ xs))) ++ (indent depth ++ closing))) (IsRead fs e)
     lines_read depth x xs u f is h =
         reads_on u (codes ">\n") (flat_map (lines (suc depth)) (map (written_child ds) (map child.Sub (x ∷ xs))) ++ (indent depth ++ closing)) (Holds false []) _ begins (λ w k.
-          reads_on w (flat_map (lines (suc depth)) (map (written_child ds) (map child.Sub (x ∷ xs)))) (indent depth ++ closing) _ _ (all w k) (λ s g. last_reads depth (x ∷ xs) s is g))
+        reads_on w (flat_map (lines (suc depth)) (map (written_child ds) (map child.Sub (x ∷ xs)))) (indent depth ++ closing) _ _ (all w k) (λ s g. last_reads depth (x ∷ xs) s is g))
       where
         begins : Reads u (codes ">\n") (Holds false [])
         begins = reads_on u (codes ">") (codes "\n") (λ w. w ≡ Inside 0 (opened t Nil) fs) _
@@ -208,8 +207,8 @@ module _ (ds : List Prefix) (plain : All (λ d. IsPlainName d.prefix) ds) where
         all : (w : State) → Holds false [] w → Reads w (flat_map (lines (suc depth)) (map (written_child ds) (map child.Sub (x ∷ xs)))) (Holds true (subs (x ∷ xs)))
         all w k =
             subst (λ l. Reads w (l ++ flat_map (lines (suc depth)) (map (written_child ds) (map child.Sub xs))) (Holds true (subs (x ∷ xs)))) (sym (line_is (suc depth) x))
-              (reads_on w (written_element ds x (suc depth)) (flat_map (lines (suc depth)) (map (written_child ds) (map child.Sub xs))) _ _ (child_reads (suc depth) false [] x w f.0 k) (λ z g.
-                more_read (suc depth) xs (child.Sub (unplaced x) ∷ []) z f.1 g))
+            (reads_on w (written_element ds x (suc depth)) (flat_map (lines (suc depth)) (map (written_child ds) (map child.Sub xs))) _ _ (child_reads (suc depth) false [] x w f.0 k) (λ z g.
+            more_read (suc depth) xs (child.Sub (unplaced x) ∷ []) z f.1 g))
 
     abbrev written_contents : ℕ → List Child → List ℕ
     written_contents depth cs = contents closing depth (map (written_child ds) cs)
@@ -222,12 +221,12 @@ module _ (ds : List Prefix) (plain : All (λ d. IsPlainName d.prefix) ds) where
         on [] is k = subst (λ cs. Reads u (written_contents depth cs) (IsRead fs e)) is (empty_reads u (sym is) h)
         on (x ∷ xs) is k =
             subst (λ cs. Reads u (written_contents depth cs) (IsRead fs e)) is
-              (subst (λ o. Reads u (option_map_or (λ text. codes ">" ++ (flat_map (escaped escape.Text) text ++ closing)) o (codes ">\n" ++ (flat_map (lines (suc depth)) (map (written_child ds) (map child.Sub (x ∷ xs))) ++ (indent depth ++ closing)))) (IsRead fs e))
-                (sym (ap (λ w. lone_text (w ∷ map (written_child ds) (map child.Sub xs))) (child_is ds x)))
-                (lines_read depth x xs u (each_more P (ChildReads (suc depth)) f (x ∷ xs) k) is h))
+            (subst (λ o. Reads u (option_map_or (λ text. codes ">" ++ (flat_map (escaped escape.Text) text ++ closing)) o (codes ">\n" ++ (flat_map (lines (suc depth)) (map (written_child ds) (map child.Sub (x ∷ xs))) ++ (indent depth ++ closing)))) (IsRead fs e))
+            (sym (ap (λ w. lone_text (w ∷ map (written_child ds) (map child.Sub xs))) (child_is ds x)))
+            (lines_read depth x xs u (each_more P (ChildReads (suc depth)) f (x ∷ xs) k) is h))
     contents_read depth P f (inr c) u h =
         subst (λ cs. Reads u (written_contents depth cs) (IsRead fs e)) c.1
-          (subst (λ w. Reads u (contents closing depth (w ∷ [])) (IsRead fs e)) (sym (words_are ds c.0)) (lone_reads c.0 u c.1 c.2 c.3 h))
+        (subst (λ w. Reads u (contents closing depth (w ∷ [])) (IsRead fs e)) (sym (words_are ds c.0)) (lone_reads c.0 u c.1 c.2 c.3 h))
 
   -- ## Elements
 
@@ -250,15 +249,15 @@ module _ (ds : List Prefix) (plain : All (λ d. IsPlainName d.prefix) ds) where
     opening_reads : Reads s (codes "<" ++ (written_name ds e.space e.name ++ written_attributes ds e.declared e.attributes)) IsOpened
     opening_reads =
         reads_on s (codes "<") (written_name ds e.space e.name ++ written_attributes ds e.declared e.attributes) (λ w. (p : Place) × (w ≡ Begun a p)) _
-          (plainly s (codes "<") _ refl (λ p. (Begun a p, opens.less p, (p, refl))))
-          (λ w b. subst (λ s. Reads s (written_name ds e.space e.name ++ written_attributes ds e.declared e.attributes) IsOpened) (sym b.1)
-            (reads_on (Begun a b.0) (written_name ds e.space e.name) (written_attributes ds e.declared e.attributes) _ _ (name_reads ds plain (Begun a b.0) (OfStart fs b.0) (λ c q. opens.letter c b.0 q) e.space e.name tag.space tag.name) (λ z n.
-              reads_to z (written_attributes ds e.declared e.attributes) _ _
-                (tag_reads ds plain fs e.declared prefixes uris e.attributes
-                  (each_to (IsAttribute ds) (filter is_version e.attributes) (each_left (IsAttribute ds) (filter is_version e.attributes) (filter (λ a. not (is_version a)) e.attributes) all_attributes))
-                  (each_to (IsAttribute ds) (filter (λ a. not (is_version a)) e.attributes) (each_right (IsAttribute ds) (filter is_version e.attributes) (filter (λ a. not (is_version a)) e.attributes) all_attributes))
-                  (start b.0 (called n.0 (prefix_in ds e.space) e.name) []) z refl (named_tag fs b.0 (called n.0 (prefix_in ds e.space) e.name) z n.1))
-                (λ y g. (b.0, n.0, g.0, g.1, g.2)))))
+        (plainly s (codes "<") _ refl (λ p. (Begun a p, opens.less p, (p, refl))))
+        (λ w b. subst (λ s. Reads s (written_name ds e.space e.name ++ written_attributes ds e.declared e.attributes) IsOpened) (sym b.1)
+        (reads_on (Begun a b.0) (written_name ds e.space e.name) (written_attributes ds e.declared e.attributes) _ _ (name_reads ds plain (Begun a b.0) (OfStart fs b.0) (λ c q. opens.letter c b.0 q) e.space e.name tag.space tag.name) (λ z n.
+        reads_to z (written_attributes ds e.declared e.attributes) _ _
+        (tag_reads ds plain fs e.declared prefixes uris e.attributes
+        (each_to (IsAttribute ds) (filter is_version e.attributes) (each_left (IsAttribute ds) (filter is_version e.attributes) (filter (λ a. not (is_version a)) e.attributes) all_attributes))
+        (each_to (IsAttribute ds) (filter (λ a. not (is_version a)) e.attributes) (each_right (IsAttribute ds) (filter is_version e.attributes) (filter (λ a. not (is_version a)) e.attributes) all_attributes))
+        (start b.0 (called n.0 (prefix_in ds e.space) e.name) []) z refl (named_tag fs b.0 (called n.0 (prefix_in ds e.space) e.name) z n.1))
+        (λ y g. (b.0, n.0, g.0, g.1, g.2)))))
 
     -- a whole element, where its children are read in any element that is as this one
     pub whole_reads : (depth : ℕ) (P : Element → Type 0) → InForce → AreChildren P e.children →
@@ -266,8 +265,8 @@ module _ (ds : List Prefix) (plain : All (λ d. IsPlainName d.prefix) ds) where
         Reads s (written_tail ds e depth) (IsRead fs e)
     whole_reads depth P force c f =
         reads_on s (codes "<" ++ (written_name ds e.space e.name ++ written_attributes ds e.declared e.attributes)) (contents (end_tag ds e.space e.name) depth (map (written_child ds) e.children)) _ _ opening_reads (λ u o.
-          let scope = force o.0 o.1 o.2 o.3 in
-          contents_read fs e tag o.0 o.1 o.2 (read_tag ds plain e tag (tags fs) o.0 o.1 o.2 o.3 differ scope) depth P (λ x h. f (start o.0 (called o.1 (prefix_in ds e.space) e.name) o.2) scope x h) c u o.4)
+        let scope = force o.0 o.1 o.2 o.3 in
+        contents_read fs e tag o.0 o.1 o.2 (read_tag ds plain e tag (tags fs) o.0 o.1 o.2 o.3 differ scope) depth P (λ x h. f (start o.0 (called o.1 (prefix_in ds e.space) e.name) o.2) scope x h) c u o.4)
 
   nothing_matches : (ns : List Pair) → Match IsPairOfDeclaration [] ns → ns ≡ []
   nothing_matches [] h = refl
@@ -284,14 +283,14 @@ module _ (ds : List Prefix) (plain : All (λ d. IsPlainName d.prefix) ds) where
         let o = o_nothing ds plain e tag (tags fs) p q ps r no_prefixes in
         let no = nothing_matches r.declarations (subst (λ l. Match IsPairOfDeclaration l r.declarations) none r.are_declarations) in
         subst (λ l. IsScope ds (start p (called q (prefix_in ds e.space) e.name) l ∷ tags fs)) (sym (r.whole ∙ ap (λ n. r.versions ++ (n ++ r.others)) no))
-          (below_scope ds plain e.attributes r.versions r.others v o p (called q (prefix_in ds e.space) e.name) (tags fs) scope)
+        (below_scope ds plain e.attributes r.versions r.others v o p (called q (prefix_in ds e.space) e.name) (tags fs) scope)
 
   pub below_reads : (n : ℕ) (fs : List Open) (f : Open) → length (tags (f ∷ fs)) + n ≤ 200 → IsScope ds (tags (f ∷ fs)) → (e : Element) → IsBelow ds n e → (depth j : ℕ) → Reads (Inside j f fs) (written_tail ds e depth) (IsRead (f ∷ fs) e)
   below_reads zero fs f le scope e b depth j = absurd b
   below_reads (suc n) fs f le scope e b depth j =
       whole_reads (f ∷ fs) (Within f fs) (Inside j f fs) opens e b.1 (subst (All (λ d. IsPlainName d.prefix)) (sym b.0) (λ k d l. absurd (omega (arith, l)))) (subst (All (λ d. IsXmlText d.uri)) (sym b.0) (λ k d l. absurd (omega (arith, l)))) (no_prefixes (f ∷ fs) e b.1 b.0 scope)
-        depth (λ x. IsBelow ds n x) (below_force (f ∷ fs) e b.1 b.0 scope) b.2
-        (λ t s x h ts words i. below_reads n (f ∷ fs) (behind (f ∷ fs) t ts words) (omega (arith, le)) s x h (suc depth) i)
+      depth (λ x. IsBelow ds n x) (below_force (f ∷ fs) e b.1 b.0 scope) b.2
+      (λ t s x h ts words i. below_reads n (f ∷ fs) (behind (f ∷ fs) t ts words) (omega (arith, le)) s x h (suc depth) i)
     where
       opens : Opens (f ∷ fs) (Within f fs) (Inside j f fs)
       opens = record {

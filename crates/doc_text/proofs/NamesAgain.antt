@@ -1,6 +1,6 @@
 -- Written names are read again.
-use Rattle.std.proofs.Common.{◌≡◌, ◌≢◌, ℕ, suc, List, [], ◌∷◌, ◌++◌, ◌⊎◌, refl, sym, ap, ◌∙◌, subst, append_assoc, arith}
-use Rattle.std.specs.Prelude.{Bool, true, false, ◌&&◌, ◌||◌, ◌==◌, not, if◌then◌else◌, encode_utf8, encode_utf8_all, codes, find, Option, Some, None, bytes_eq, All, length}
+use Rattle.std.proofs.Common.{◌≡◌, ℕ, suc, List, [], ◌∷◌, ◌++◌, refl, sym, ap, ◌∙◌, subst, append_assoc, arith}
+use Rattle.std.specs.Prelude.{Bool, true, false, ◌||◌, ◌==◌, not, if◌then◌else◌, encode_utf8, encode_utf8_all, codes, find, Some, bytes_eq, All}
 use Rattle.std.specs.Option.{option_map_or}
 use Rattle.std.specs.List.{list_all, list_any}
 use Rattle.std.proofs.lemmas.Bool.{and_parts, and_from, eqb-true, not_from_false}
@@ -8,7 +8,7 @@ use Rattle.std.proofs.lemmas.List.{append-nil}
 use Rattle.std.proofs.lemmas.Slice.Eq.{bytes_eq-Decides}
 use Rattle.atl_base.specs.declared.place.Place.{Place}
 use Rattle.atl_base.specs.XmlText.{is_xml_character}
-use Rattle.doc_text.specs.Symbols.{Kind, Slash, Greater, Equals, Colon, Blank, Letter, Bad, code_of, kind_of, utf8, is_good, is_start, is_name}
+use Rattle.doc_text.specs.Symbols.{Kind, Slash, Greater, Equals, Blank, Letter, Bad, kind_of, utf8, is_good, is_start, is_name}
 use Rattle.doc_text.specs.Raw.{Name, called}
 use Rattle.doc_text.specs.State.{Bearer, State, Naming, Coloned, Localing, Goes}
 use Rattle.doc_text.specs.Steps.{step, named}
@@ -17,7 +17,7 @@ use Rattle.doc_text.specs.ReadBack.{IsPlain, IsPlainName, IsDeclared}
 use Rattle.doc_text.specs.declared.tree.Prefix.{Prefix}
 use Rattle.doc_text.proofs.KindsKept.{kind_is, sort_of}
 use Rattle.doc_text.proofs.Leading.{Leads, leads_to, Reads, reads_on, reads_to, plainly, is_written}
-use Rattle.doc_text.proofs.Runs.{false-true, true-false, letters, names}
+use Rattle.doc_text.proofs.Runs.{false-true, letters, names}
 
 -- what may follow a name
 abbrev pub is_past_name : Kind → Bool
@@ -78,10 +78,12 @@ utf8_is c h = ap encode_utf8 (kind_is c (xml_of c h)).code
 run_reads : (g : List ℕ → State) → ((n : List ℕ) (k : Kind) (p : Place) → is_name k ≡ true → step true (g n) k p ≡ Goes (g (n ++ utf8 k))) → (cs : List ℕ) → list_all (λ c. is_name (kind_of c)) cs ≡ true → (n : List ℕ) → Leads (g n) cs (λ u. u ≡ g (n ++ encode_utf8_all cs))
 run_reads g f [] h n = ap g (sym (append-nil n))
 run_reads g f (c ∷ cs) h n = λ p.
-    let k = and_parts (is_name (kind_of c)) (list_all (λ c. is_name (kind_of c)) cs) h in
-    (g (n ++ utf8 (kind_of c)), f n (kind_of c) p k.0,
-     leads_to (g (n ++ utf8 (kind_of c))) cs _ _ (run_reads g f cs k.1 (n ++ utf8 (kind_of c))) (λ u e.
-        e ∙ ap g (append_assoc n (utf8 (kind_of c)) (encode_utf8_all cs) ∙ ap (λ l. n ++ (l ++ encode_utf8_all cs)) (utf8_is c (named_good (kind_of c) k.0)))))
+    let k = and_parts (is_name (kind_of c)) (list_all (λ c. is_name (kind_of c)) cs) h in (
+      g (n ++ utf8 (kind_of c)),
+      f n (kind_of c) p k.0,
+      leads_to (g (n ++ utf8 (kind_of c))) cs _ _ (run_reads g f cs k.1 (n ++ utf8 (kind_of c))) (λ u e.
+          e ∙ ap g (append_assoc n (utf8 (kind_of c)) (encode_utf8_all cs) ∙ ap (λ l. n ++ (l ++ encode_utf8_all cs)) (utf8_is c (named_good (kind_of c) k.0)))),
+    )
 
 -- a plain name, in states that gather it
 abbrev pub Begins : State → (Place → List ℕ → State) → Type 0
@@ -95,10 +97,12 @@ plain_reads s g b f n h = record {
   characters = h.first ∷ h.others;
   spelt = h.spelt;
   written = and_from (is_written h.first) (list_all is_written h.others) (name_written h.first (start_name (kind_of h.first) h.starts)) (names_written h.others h.goes_on);
-  leads = λ p. (g p (utf8 (kind_of h.first)),
+  leads = λ p. (
+    g p (utf8 (kind_of h.first)),
     letters (λ k. step true s k p ≡ Goes (g p (utf8 k))) (λ c. b c p) (kind_of h.first) h.starts,
     leads_to (g p (utf8 (kind_of h.first))) h.others _ _ (run_reads (g p) (f p) h.others h.goes_on (utf8 (kind_of h.first))) (λ u e.
-        (p, e ∙ ap (g p) (ap (λ l. l ++ encode_utf8_all h.others) (utf8_is h.first (named_good (kind_of h.first) (start_name (kind_of h.first) h.starts))) ∙ h.spelt))));
+        (p, e ∙ ap (g p) (ap (λ l. l ++ encode_utf8_all h.others) (utf8_is h.first (named_good (kind_of h.first) (start_name (kind_of h.first) h.starts))) ∙ h.spelt))),
+  );
 }
 
 naming : (b : Bearer) → Gathers (Naming b)
@@ -115,14 +119,14 @@ unprefixed_reads s b f n h = reads_to s n _ _ (plain_reads s (Naming b) f (namin
 colon_reads : (b : Bearer) (q : Place) (m n : List ℕ) → IsPlain n → Reads (Naming b q m) (codes ":" ++ n) (λ u. (p : Place) × (u ≡ Localing b q m n))
 colon_reads b q m n h =
     reads_on (Naming b q m) (codes ":") n (λ u. u ≡ Coloned b q m) _
-      (plainly (Naming b q m) (codes ":") _ refl (λ p. (Coloned b q m, refl, refl)))
-      (λ u e. subst (λ v. Reads v n (λ u. (p : Place) × (u ≡ Localing b q m n))) (sym e) (plain_reads (Coloned b q m) (λ p. Localing b q m) (λ c p. refl) (localing b q m) n h))
+    (plainly (Naming b q m) (codes ":") _ refl (λ p. (Coloned b q m, refl, refl)))
+    (λ u e. subst (λ v. Reads v n (λ u. (p : Place) × (u ≡ Localing b q m n))) (sym e) (plain_reads (Coloned b q m) (λ p. Localing b q m) (λ c p. refl) (localing b q m) n h))
 
 pub prefixed_reads : (s : State) (b : Bearer) → Begins s (Naming b) → (m n : List ℕ) → IsPlain m → IsPlain n → Reads s (m ++ (codes ":" ++ n)) (λ u. (q : Place) × IsAtName b (called q m n) u)
 prefixed_reads s b f m n h k =
     reads_on s m (codes ":" ++ n) _ _ (plain_reads s (Naming b) f (naming b) m h) (λ u e.
-        subst (λ v. Reads v (codes ":" ++ n) (λ w. (q : Place) × IsAtName b (called q m n) w)) (sym e.1)
-          (reads_to (Naming b e.0 m) (codes ":" ++ n) _ _ (colon_reads b e.0 m n k) (λ w g. (e.0, subst (IsAtName b (called e.0 m n)) (sym g.1) (at_localing b e.0 m n)))))
+    subst (λ v. Reads v (codes ":" ++ n) (λ w. (q : Place) × IsAtName b (called q m n) w)) (sym e.1)
+    (reads_to (Naming b e.0 m) (codes ":" ++ n) _ _ (colon_reads b e.0 m n k) (λ w g. (e.0, subst (IsAtName b (called e.0 m n)) (sym g.1) (at_localing b e.0 m n)))))
 
 -- ## Names in namespaces
 
@@ -170,4 +174,4 @@ name_reads ds hs s b f [] n d h = unprefixed_reads s b f n h.plain
 name_reads ds hs s b f (c ∷ cs) n d h =
     let g = found (λ d. IsPlainName d.prefix) ds (c ∷ cs) hs d in
     subst (λ m. Reads s (m ++ (codes ":" ++ n)) (λ u. (q : Place) × IsAtName b (called q m n) u)) (sym (ap (λ o. option_map_or (λ d. d.prefix) o []) g.is_first))
-      (prefixed_reads s b f g.declaration.prefix n g.keeps.plain h.plain)
+    (prefixed_reads s b f g.declaration.prefix n g.keeps.plain h.plain)

@@ -1,23 +1,21 @@
 -- The namespaces of a tag that is read again: all its names are found, none stands twice, and what it keeps is what
 -- was written.
 use Rattle.std.proofs.Common.{◌≡◌, ◌≢◌, ℕ, zero, suc, List, [], ◌∷◌, ◌++◌, refl, sym, ap, ◌∙◌, subst, append_assoc, arith}
-use Rattle.std.specs.Prelude.{Bool, true, false, ◌&&◌, ◌||◌, if◌then◌else◌, codes, All, AllPairs, filter, not, bytes_eq, Option, Some, None, is_some, find, length}
+use Rattle.std.specs.Prelude.{Bool, true, false, ◌&&◌, ◌||◌, if◌then◌else◌, codes, All, AllPairs, filter, not, bytes_eq, Option, Some, None, is_some}
 use Rattle.std.specs.Option.{option_map_or}
-use Rattle.std.specs.List.{list_any}
 use Rattle.std.proofs.lemmas.Bool.{false_from_ne_true, or_from, or_left, or_right, and_right}
 use Rattle.std.proofs.lemmas.List.{append-nil}
 use Rattle.std.proofs.lemmas.Slice.Eq.{bytes_eq-Decides}
 use Rattle.atl_base.specs.declared.place.Place.{Place}
-use Rattle.doc_text.specs.Faults.{Fault, TwiceAttribute, Prefix as PrefixFault}
+use Rattle.doc_text.specs.Faults.{TwiceAttribute, Prefix as PrefixFault}
 use Rattle.doc_text.specs.Raw.{Name, called, Pair, pair, Start, start}
-use Rattle.doc_text.specs.Names.{prefix_of}
 use Rattle.doc_text.specs.Namespaces.{is_default, is_declaration, declared_prefix, own_uri, uri_of, attribute_space, both, is_twice, stands_before, name_fault, or_else, pairs_fault, tag_fault, or_empty, declared_of, attributes_of}
 use Rattle.doc_text.specs.ReadBack.{IsPlainName, IsDeclared, IsAttribute, IsTag, Differ}
 use Rattle.doc_text.specs.Written.{is_version}
 use Rattle.doc_text.specs.declared.tree.Attribute.{Attribute}
 use Rattle.doc_text.specs.declared.tree.Prefix.{Prefix}
 use Rattle.doc_text.specs.declared.tree.Element.{Element}
-use Rattle.doc_text.proofs.NamesAgain.{Found, found, prefix_in, All_first, All_rest}
+use Rattle.doc_text.proofs.NamesAgain.{found, prefix_in, All_first, All_rest}
 use Rattle.doc_text.proofs.TagsAgain.{IsPairOf, IsPairOfDeclaration, Match, AreRead, not_empty}
 use Rattle.doc_text.proofs.Runs.{false-true, true-false}
 
@@ -72,9 +70,10 @@ module _ {X : Type 0} where
 
   pub pairwise_from : (R : X → X → Type 0) (xs : List X) → AllPairs R xs → Pairwise R xs
   pairwise_from R [] h = tt
-  pairwise_from R (x ∷ xs) h =
-      (each_from (R x) xs (λ k d l. h 0 (suc k) d (omega arith) (omega (arith, l))),
-       pairwise_from R xs (λ i j d lt l. h (suc i) (suc j) d (omega (arith, lt)) (omega (arith, l))))
+  pairwise_from R (x ∷ xs) h = (
+    each_from (R x) xs (λ k d l. h 0 (suc k) d (omega arith) (omega (arith, l))),
+    pairwise_from R xs (λ i j d lt l. h (suc i) (suc j) d (omega (arith, lt)) (omega (arith, l))),
+  )
 
   pub pairwise_before : (R : X → X → Type 0) (before : List X) (x : X) (rest : List X) → Pairwise R (before ++ (x ∷ rest)) → Each (λ b. R b x) before
   pairwise_before R [] x rest h = tt
@@ -158,7 +157,7 @@ module _ (ds : List Prefix) (plain : All (λ d. IsPlainName d.prefix) ds) (open_
   stands_for (c ∷ cs) h =
       let g = found (λ d. IsPlainName d.prefix × (uri_of d.prefix open_tags ≡ Some d.uri)) ds (c ∷ cs) both_hold h in
       subst (StandsFor open_tags (c ∷ cs)) (sym (ap (λ o. option_map_or (λ d. d.prefix) o []) g.is_first))
-        (declared_for (c ∷ cs) g.declaration g.uri g.keeps.0 g.keeps.1)
+      (declared_for (c ∷ cs) g.declaration g.uri g.keeps.0 g.keeps.1)
 
 -- ## What was read of a tag
 
@@ -197,15 +196,17 @@ module _ (p : List ℕ) (outer : Option (List ℕ)) where
 own_uris : (outer : List ℕ → Option (List ℕ)) (list : List Prefix) (ns rest : List Pair) → Match IsPairOfDeclaration list ns → Pairwise (λ c d. c.prefix ≢ d.prefix) list → Each (λ d. own_uri d.prefix (ns ++ rest) (outer d.prefix) ≡ Some d.uri) list
 own_uris outer [] ns rest h k = tt
 own_uris outer (d ∷ list) [] rest h k = absurd h
-own_uris outer (d ∷ list) (n ∷ ns) rest h k =
-    (subst (λ n. own_uri d.prefix (n ∷ (ns ++ rest)) (outer d.prefix) ≡ Some d.uri) (sym h.0.1) (this_uri d.prefix (outer d.prefix) h.0.0 d (ns ++ rest) (same_bytes d.prefix)),
-     each_both list k.0 (own_uris outer list ns rest h.1 k.1))
+own_uris outer (d ∷ list) (n ∷ ns) rest h k = (
+  subst (λ n. own_uri d.prefix (n ∷ (ns ++ rest)) (outer d.prefix) ≡ Some d.uri) (sym h.0.1) (this_uri d.prefix (outer d.prefix) h.0.0 d (ns ++ rest) (same_bytes d.prefix)),
+  each_both list k.0 (own_uris outer list ns rest h.1 k.1),
+)
   where
     each_both : (xs : List Prefix) → Each (λ e. d.prefix ≢ e.prefix) xs → Each (λ e. own_uri e.prefix (ns ++ rest) (outer e.prefix) ≡ Some e.uri) xs → Each (λ e. own_uri e.prefix (n ∷ (ns ++ rest)) (outer e.prefix) ≡ Some e.uri) xs
     each_both [] f g = tt
-    each_both (e ∷ xs) f g =
-        (subst (λ n. own_uri e.prefix (n ∷ (ns ++ rest)) (outer e.prefix) ≡ Some e.uri) (sym h.0.1) (other_uri e.prefix (outer e.prefix) h.0.0 d (ns ++ rest) (differs d.prefix e.prefix f.0) ∙ g.0),
-         each_both xs f.1 g.1)
+    each_both (e ∷ xs) f g = (
+      subst (λ n. own_uri e.prefix (n ∷ (ns ++ rest)) (outer e.prefix) ≡ Some e.uri) (sym h.0.1) (other_uri e.prefix (outer e.prefix) h.0.0 d (ns ++ rest) (differs d.prefix e.prefix f.0) ∙ g.0),
+      each_both xs f.1 g.1,
+    )
 
 -- what is read of attributes declares nothing, and declarations do
 module _ (ds : List Prefix) (plain : All (λ d. IsPlainName d.prefix) ds) where
@@ -422,8 +423,8 @@ module _ (ds : List Prefix) (plain : All (λ d. IsPlainName d.prefix) ds) (e : E
     all_fine : Each (Fine open_tags) (r.versions ++ (r.declarations ++ r.others))
     all_fine = each_append (Fine open_tags) r.versions (r.declarations ++ r.others) (match_each (IsRead ds) (Fine open_tags) (read_fine ds plain open_tags scope) versions r.versions v_read)
         (each_append (Fine open_tags) r.declarations r.others
-          (each_more Declares (Fine open_tags) (λ x h. or_left (is_declaration x.name) (is_some (attribute_space x.name open_tags)) h) r.declarations n_declare)
-          (match_each (IsRead ds) (Fine open_tags) (read_fine ds plain open_tags scope) others r.others o_read))
+        (each_more Declares (Fine open_tags) (λ x h. or_left (is_declaration x.name) (is_some (attribute_space x.name open_tags)) h) r.declarations n_declare)
+        (match_each (IsRead ds) (Fine open_tags) (read_fine ds plain open_tags scope) others r.others o_read))
 
     name : StandsFor open_tags e.space (prefix_in ds e.space)
     name = stands_for ds plain open_tags scope e.space tag.space

@@ -1,25 +1,24 @@
 -- Written values and texts are read again: what stands for a character gives that character.
 use Rattle.std.proofs.Common.{◌≡◌, ◌≢◌, ℕ, ◌<◌, ◌≤◌, List, [], ◌∷◌, ◌++◌, ◌⊎◌, inl, inr, refl, sym, ap, ◌∙◌, subst, append_assoc, arith}
-use Rattle.std.specs.Prelude.{Bool, true, false, ◌&&◌, ◌||◌, ◌==◌, not, if◌then◌else◌, encode_utf8, encode_utf8_all, codes, bytes_eq}
+use Rattle.std.specs.Prelude.{Bool, true, false, ◌||◌, ◌==◌, not, if◌then◌else◌, encode_utf8, encode_utf8_all, codes}
 use Rattle.std.specs.List.{list_all, flat_map}
 use Rattle.std.proofs.lemmas.Bool.{and_parts, and_from, eqb-true, eq-eqb, ne_eqb, not_from_false, cases_lt}
-use Rattle.std.proofs.lemmas.Bool.Decides.{nat_tests}
 use Rattle.std.proofs.lemmas.List.{append-nil}
 use Rattle.std.proofs.lemmas.Grind.{flat_map-append}
 use Rattle.std.proofs.lemmas.Str.{encode_ascii}
 use Rattle.atl_base.specs.declared.place.Place.{Place}
 use Rattle.atl_base.specs.XmlText.{is_xml_character, IsXmlText}
-use Rattle.doc_text.specs.Symbols.{Kind, Less, Greater, Slash, And, Semicolon, Quote, Apostrophe, Equals, Bang, Question, Bracket, Hash, Colon, Dash, Blank, Letter, Joint, Other, Bad, code_of, kind_of, utf8}
+use Rattle.doc_text.specs.Symbols.{Kind, Less, Greater, And, Quote, Blank, Letter, Bad, code_of, kind_of, utf8}
 use Rattle.doc_text.specs.Raw.{Name, Start, Trees, Nil, Also, Words, add_text}
 use Rattle.doc_text.specs.Namespaces.{is_blank_text}
 use Rattle.doc_text.specs.Markup.{ByName}
 use Rattle.doc_text.specs.Form.{bracketed}
-use Rattle.doc_text.specs.State.{Open, opened, grow, Citing, InText, InValue, State, Citation, Nameless, ByEntity, Hashed, Hexed, Hexadecimal, Valuing, Inside, Step, Goes}
+use Rattle.doc_text.specs.State.{Open, opened, grow, Citing, InText, InValue, State, Citation, Nameless, ByEntity, Valuing, Inside, Goes}
 use Rattle.doc_text.specs.Steps.{step, cited, known}
 use Rattle.doc_text.specs.Escapes.{escaped}
 use Rattle.doc_text.specs.declared.escape.Escapes.TheVariants as place
 use Rattle.doc_text.proofs.Escaping.{escaped_wide, escaped_ascii}
-use Rattle.doc_text.proofs.KindsKept.{IsKindOf, kind_is, is_proper, is_blank_code}
+use Rattle.doc_text.proofs.KindsKept.{kind_is, is_proper, is_blank_code}
 use Rattle.doc_text.proofs.Leading.{Leads, leads_to, Reads, nothing, reads_on, reads_to, plainly, is_plain, is_written}
 use Rattle.doc_text.proofs.Runs.{false-true, true-false}
 
@@ -155,9 +154,9 @@ module _ (fs : List Open) (t : Start) (n : Name) where
   values (c ∷ cs) v h =
       let k = and_parts (is_xml_character c) (list_all is_xml_character cs) h in
       subst (λ l. Reads (value_state v) l (λ u. u ≡ value_state (v ++ (encode_utf8 c ++ encode_utf8_all cs)))) (sym (flat_map-append (escaped place.Value) (encode_utf8 c) (encode_utf8_all cs)))
-        (reads_on (value_state v) (flat_map (escaped place.Value) (encode_utf8 c)) (flat_map (escaped place.Value) (encode_utf8_all cs)) _ _ (value_character c v k.0) (λ u e.
-          subst (λ s. Reads s (flat_map (escaped place.Value) (encode_utf8_all cs)) (λ u. u ≡ value_state (v ++ (encode_utf8 c ++ encode_utf8_all cs)))) (sym e)
-            (reads_to (value_state (v ++ encode_utf8 c)) _ _ _ (values cs (v ++ encode_utf8 c) k.1) (λ w g. g ∙ ap value_state (append_assoc v (encode_utf8 c) (encode_utf8_all cs))))))
+      (reads_on (value_state v) (flat_map (escaped place.Value) (encode_utf8 c)) (flat_map (escaped place.Value) (encode_utf8_all cs)) _ _ (value_character c v k.0) (λ u e.
+      subst (λ s. Reads s (flat_map (escaped place.Value) (encode_utf8_all cs)) (λ u. u ≡ value_state (v ++ (encode_utf8 c ++ encode_utf8_all cs)))) (sym e)
+      (reads_to (value_state (v ++ encode_utf8 c)) _ _ _ (values cs (v ++ encode_utf8 c) k.1) (λ w g. g ∙ ap value_state (append_assoc v (encode_utf8 c) (encode_utf8_all cs))))))
 
   pub value_reads : (text : List ℕ) → IsXmlText text → Reads (value_state []) (flat_map (escaped place.Value) text) (λ u. u ≡ value_state text)
   value_reads text h = subst (λ l. Reads (value_state []) (flat_map (escaped place.Value) l) (λ u. u ≡ value_state l)) h.2 (values h.0 [] h.1)
@@ -223,19 +222,19 @@ module _ (fs : List Open) where
   more_text (c ∷ cs) words j t ts h =
       let k = and_parts (is_xml_character c) (list_all is_xml_character cs) h in
       subst (λ l. Reads (Inside j (behind t ts words) fs) l (IsInside (behind t ts (words ++ (encode_utf8 c ++ encode_utf8_all cs))))) (sym (flat_map-append (escaped place.Text) (encode_utf8 c) (encode_utf8_all cs)))
-        (reads_on (Inside j (behind t ts words) fs) (flat_map (escaped place.Text) (encode_utf8 c)) (flat_map (escaped place.Text) (encode_utf8_all cs)) _ _ (text_character c j (behind t ts words) k.0) (λ u e.
-          subst (λ s. Reads s (flat_map (escaped place.Text) (encode_utf8_all cs)) (IsInside (behind t ts (words ++ (encode_utf8 c ++ encode_utf8_all cs))))) (sym e.1)
-            (subst (λ l. Reads (Inside e.0 (behind t ts (words ++ encode_utf8 c)) fs) (flat_map (escaped place.Text) (encode_utf8_all cs)) (IsInside (behind t ts l))) (append_assoc words (encode_utf8 c) (encode_utf8_all cs))
-              (more_text cs (words ++ encode_utf8 c) e.0 t ts k.1))))
+      (reads_on (Inside j (behind t ts words) fs) (flat_map (escaped place.Text) (encode_utf8 c)) (flat_map (escaped place.Text) (encode_utf8_all cs)) _ _ (text_character c j (behind t ts words) k.0) (λ u e.
+      subst (λ s. Reads s (flat_map (escaped place.Text) (encode_utf8_all cs)) (IsInside (behind t ts (words ++ (encode_utf8 c ++ encode_utf8_all cs))))) (sym e.1)
+      (subst (λ l. Reads (Inside e.0 (behind t ts (words ++ encode_utf8 c)) fs) (flat_map (escaped place.Text) (encode_utf8_all cs)) (IsInside (behind t ts l))) (append_assoc words (encode_utf8 c) (encode_utf8_all cs))
+      (more_text cs (words ++ encode_utf8 c) e.0 t ts k.1))))
 
   all_text : (cs : List ℕ) (j : ℕ) (t : Start) → encode_utf8_all cs ≢ [] → list_all is_xml_character cs ≡ true → Reads (Inside j (opened t Nil) fs) (flat_map (escaped place.Text) (encode_utf8_all cs)) (IsInside (behind t Nil (encode_utf8_all cs)))
   all_text [] j t n h = absurd (n refl)
   all_text (c ∷ cs) j t n h =
       let k = and_parts (is_xml_character c) (list_all is_xml_character cs) h in
       subst (λ l. Reads (Inside j (opened t Nil) fs) l (IsInside (behind t Nil (encode_utf8 c ++ encode_utf8_all cs)))) (sym (flat_map-append (escaped place.Text) (encode_utf8 c) (encode_utf8_all cs)))
-        (reads_on (Inside j (opened t Nil) fs) (flat_map (escaped place.Text) (encode_utf8 c)) (flat_map (escaped place.Text) (encode_utf8_all cs)) _ _ (text_character c j (opened t Nil) k.0) (λ u e.
-          subst (λ s. Reads s (flat_map (escaped place.Text) (encode_utf8_all cs)) (IsInside (behind t Nil (encode_utf8 c ++ encode_utf8_all cs)))) (sym e.1)
-            (more_text cs (encode_utf8 c) e.0 t Nil k.1)))
+      (reads_on (Inside j (opened t Nil) fs) (flat_map (escaped place.Text) (encode_utf8 c)) (flat_map (escaped place.Text) (encode_utf8_all cs)) _ _ (text_character c j (opened t Nil) k.0) (λ u e.
+      subst (λ s. Reads s (flat_map (escaped place.Text) (encode_utf8_all cs)) (IsInside (behind t Nil (encode_utf8 c ++ encode_utf8_all cs)))) (sym e.1)
+      (more_text cs (encode_utf8 c) e.0 t Nil k.1)))
 
   -- the text that an element has alone
   pub text_reads : (text : List ℕ) (j : ℕ) (t : Start) → text ≢ [] → IsXmlText text → Reads (Inside j (opened t Nil) fs) (flat_map (escaped place.Text) text) (IsInside (behind t Nil text))
@@ -285,9 +284,11 @@ module _ (fs : List Open) where
   blanks_lead : (cs : List ℕ) (j : ℕ) (t : Start) (ts : Trees) (words : List ℕ) → list_all is_space cs ≡ true → is_blank_text words ≡ true → Leads (Inside j (behind t ts words) fs) cs (IsBlankBehind t ts)
   blanks_lead [] j t ts words h w = (words, w, (j, refl))
   blanks_lead (c ∷ cs) j t ts words h w = λ p.
-      let k = and_parts (is_space c) (list_all is_space cs) h in
-      (Inside 0 (behind t ts (words ++ encode_utf8 c)) fs, blank_step c j t ts words p k.0,
-       blanks_lead cs 0 t ts (words ++ encode_utf8 c) k.1 (blank_append words (encode_utf8 c) w (blank_bytes c k.0)))
+      let k = and_parts (is_space c) (list_all is_space cs) h in (
+        Inside 0 (behind t ts (words ++ encode_utf8 c)) fs,
+        blank_step c j t ts words p k.0,
+        blanks_lead cs 0 t ts (words ++ encode_utf8 c) k.1 (blank_append words (encode_utf8 c) w (blank_bytes c k.0)),
+      )
 
   pub blanks_read : (cs : List ℕ) (t : Start) (ts : Trees) (u : State) → list_all is_space cs ≡ true → IsBlankBehind t ts u → Reads u cs (IsBlankBehind t ts)
   blanks_read cs t ts u h b = subst (λ v. Reads v cs (IsBlankBehind t ts)) (sym b.2.1) (plainly (Inside b.2.0 (behind t ts b.0) fs) cs _ (blanks_plain cs h) (blanks_lead cs b.2.0 t ts b.0 h b.1))
