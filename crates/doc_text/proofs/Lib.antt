@@ -23,3 +23,4 @@ pub mod Rows
 pub mod Bytes
 pub mod Lengths
 pub mod Paths
+pub mod RawTrees

@@ -11,6 +11,7 @@ pub mod Form
 pub mod Conditions
 pub mod State
 pub mod Steps
+pub mod RawTrees
 pub mod Machine
 pub mod Laws
 pub mod Encodings

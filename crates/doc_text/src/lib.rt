@@ -6,6 +6,7 @@ pub mod characters;
 pub mod encoding;
 mod escape;
 pub mod laws;
+mod reading;
 pub mod refusal;
 pub mod state;
 pub mod symbol;
