@@ -6,12 +6,15 @@ pub mod Symbols
 pub mod Raw
 pub mod Faults
 pub mod Namespaces
+pub mod Spaces
 pub mod Markup
 pub mod Form
 pub mod Conditions
 pub mod State
 pub mod Steps
 pub mod RawTrees
+pub mod Keys
+pub mod SeenKeys
 pub mod Machine
 pub mod Laws
 pub mod Encodings

@@ -1,3 +1,6 @@
 // Reading a document: one step a character, over the elements that are open.
+mod keys;
+mod names;
 pub mod open;
 pub mod raw;
+mod tag_fault;
