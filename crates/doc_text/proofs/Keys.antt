@@ -1,5 +1,5 @@
 -- Two attributes of a start tag are the same where their keys are, and what that says of the faults of its names.
-use Rattle.std.proofs.Common.{◌≡◌, ℕ, ◌+◌, ◌<◌, suc, List, [], ◌∷◌, ◌++◌, length, take, drop, get_or, refl, ap, sym, ◌∙◌, arith, add-one, drop-cons}
+use Rattle.std.proofs.Common.{◌≡◌, ℕ, ◌+◌, ◌<◌, suc, List, [], ◌∷◌, ◌++◌, length, take, drop, get_or, refl, ap, sym, ◌∙◌, add-one, drop-cons}
 use Rattle.std.proofs.lemmas.List.{map-append, take_more}
 use Rattle.std.specs.Prelude.{Bool, true, false, map, ◌&&◌, ◌||◌, if◌then◌else◌, bytes_eq, Option, Some, None, is_some}
 use Rattle.std.specs.Option.{option_map}

@@ -25,3 +25,4 @@ pub mod Lengths
 pub mod Paths
 pub mod RawTrees
 pub mod Keys
+pub mod Resolving

@@ -1,7 +1,6 @@
 -- What tells an attribute from the others of its start tag: a declaration by its prefix, any other by the namespace
 -- and the local part of its name.
-use Rattle.std.specs.Prelude.{ℕ, List, Bool, true, false, []}
-use Rattle.std.specs.Prelude.{◌&&◌, if◌then◌else◌, bytes_eq, Option, Some, None}
+use Rattle.std.specs.Prelude.{ℕ, List, [], Bool, true, false, ◌&&◌, if◌then◌else◌, bytes_eq, Option, Some}
 use Rattle.std.specs.Option.{option_map}
 use Rattle.doc_text.specs.Raw.{Name, Start}
 use Rattle.doc_text.specs.Namespaces.{is_declaration, declared_prefix, attribute_space}

@@ -15,6 +15,7 @@ pub mod Steps
 pub mod RawTrees
 pub mod Keys
 pub mod SeenKeys
+pub mod Resolving
 pub mod Machine
 pub mod Laws
 pub mod Encodings

@@ -3,4 +3,5 @@ mod keys;
 mod names;
 pub mod open;
 pub mod raw;
+mod resolve;
 mod tag_fault;
