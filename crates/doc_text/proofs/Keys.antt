@@ -1,14 +1,15 @@
 -- Two attributes of a start tag are the same where their keys are, and what that says of the faults of its names.
 use Rattle.std.proofs.Common.{◌≡◌, ℕ, ◌+◌, ◌<◌, suc, List, [], ◌∷◌, ◌++◌, length, take, drop, get_or, refl, ap, sym, ◌∙◌, add-one, drop-cons}
 use Rattle.std.proofs.lemmas.List.{map-append, take_more}
-use Rattle.std.specs.Prelude.{Bool, true, false, map, ◌&&◌, ◌||◌, if◌then◌else◌, bytes_eq, Option, Some, None, is_some}
+use Rattle.std.specs.Prelude.{Bool, true, false, not, map, ◌&&◌, ◌||◌, if◌then◌else◌, bytes_eq, Option, Some, None, is_some}
 use Rattle.std.specs.Option.{option_map}
+use Rattle.std.specs.Cmp.Lexicographic.{nat_list_eq_equiv}
 use Rattle.std.specs.List.{list_any}
 use Rattle.atl_base.specs.declared.place.Place.{Place}
 use Rattle.doc_text.specs.Faults.{Fault, TwiceAttribute, Prefix}
 use Rattle.doc_text.specs.Raw.{Name, Pair, Start}
 use Rattle.doc_text.specs.Namespaces.{is_declaration, declared_prefix, attribute_space, both, is_twice, stands_before, name_fault, or_else, pairs_fault}
-use Rattle.doc_text.specs.Keys.{Key, declaring, naming, key_of, is_same, are_same}
+use Rattle.doc_text.specs.Keys.{Key, declaring, naming, key_of, same, is_same, are_same}
 use Rattle.doc_text.specs.SeenKeys.{key_in}
 use Rattle.doc_text.specs.declared.reading.keys.Key.{Key as SomeKey}
 
@@ -133,3 +134,37 @@ keys_more open_tags ps i p k ks new h at some seen pushed =
     ∙ ap (λ o. keys_of open_tags (take i ps) ++ (o ∷ [])) (sym some ∙ ap key at)
     ∙ sym (map-append key (take i ps) (get_or ps i p ∷ []))
     ∙ ap (map key) (sym (take_more ps i p h))
+
+-- a set of keys, whose test is that they are the same
+same_flips : (b c : Bool) → same b c ≡ same c b
+same_flips true true = refl
+same_flips true false = refl
+same_flips false true = refl
+same_flips false false = refl
+
+is_same_flips : (k l : Key) → is_same k l ≡ is_same l k
+is_same_flips k l = ap (λ b. b && (bytes_eq k.space l.space && bytes_eq k.local l.local)) (same_flips k.declares l.declares)
+    ∙ ap (λ b. same l.declares k.declares && (b && bytes_eq k.local l.local)) (nat_list_eq_equiv.symm k.space l.space)
+    ∙ ap (λ b. same l.declares k.declares && (bytes_eq l.space k.space && b)) (nat_list_eq_equiv.symm k.local l.local)
+
+not_false : (b : Bool) → not b ≡ false → b ≡ true
+not_false true h = refl
+not_false false h = cc
+
+not_true : (b : Bool) → not b ≡ true → b ≡ false
+not_true true h = cc
+not_true false h = refl
+
+module _ (eq : SomeKey → SomeKey → Bool) (tells : (k l : SomeKey) → eq k l ≡ is_same (key_in k) (key_in l)) (k : SomeKey) where
+  found : (ks : List SomeKey) → list_any (eq k) ks ≡ list_any (λ m. is_same (key_in m) (key_in k)) ks
+  found [] = refl
+  found (m ∷ ks) = ap (λ b. b || list_any (eq k) ks) (tells k m ∙ is_same_flips (key_in k) (key_in m)) ∙ ap (λ b. is_same (key_in m) (key_in k) || b) (found ks)
+
+  pub found_again : (ks : List SomeKey) (is_new : Bool) → is_new ≡ not (list_any (eq k) ks) → is_new ≡ false → list_any (λ m. is_same (key_in m) (key_in k)) ks ≡ true
+  found_again ks is_new told is = sym (found ks) ∙ not_false (list_any (eq k) ks) (sym told ∙ is)
+
+  pub found_first : (ks : List SomeKey) (is_new : Bool) → is_new ≡ not (list_any (eq k) ks) → is_new ≡ true → list_any (λ m. is_same (key_in m) (key_in k)) ks ≡ false
+  found_first ks is_new told is = sym (found ks) ∙ not_true (list_any (eq k) ks) (sym told ∙ is)
+
+  pub added : (ks new : List SomeKey) (is_new : Bool) → is_new ≡ not (list_any (eq k) ks) → is_new ≡ true → new ≡ (if list_any (eq k) ks then ks else ks ++ (k ∷ [])) → new ≡ ks ++ (k ∷ [])
+  added ks new is_new told is put = put ∙ ap (λ b. if b then ks else ks ++ (k ∷ [])) (not_true (list_any (eq k) ks) (sym told ∙ is))

@@ -21,7 +21,8 @@ abbrev pub key_of : List Start → Name → Option Key
 key_of open_tags n = if is_declaration n then Some (declaring (declared_prefix n)) else option_map (λ s. naming s n.local) (attribute_space n open_tags)
 
 abbrev pub same : Bool → Bool → Bool
-same true b = b
+same true true = true
+same true false = false
 same false true = false
 same false false = true
 

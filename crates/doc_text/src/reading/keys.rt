@@ -12,7 +12,7 @@ use crate::reading::open::Open;
 use crate::state::{Name, Start};
 
 /// A declaration by its prefix, any other attribute by its namespace and local name.
-#[derive(Clone, Copy)]
+#[derive(Clone, Copy, PartialEq, Eq, Hash)]
 pub struct Key<'a> {
     pub declares: bool,
     pub space: &'a str,

@@ -10,10 +10,14 @@ use crate::reading::open::Open;
 use crate::refusal::Fault;
 use crate::state::Start;
 use atl_base::place::Place;
+use indexmap::IndexSet;
 use std::alloc::{AllocError, Global};
 
+// As many attributes are compared with one another. More than these are looked up in a set.
+const FEW: usize = 16;
+
 // The first fault of the attributes, each compared with those before it.
-fn pairs_fault(
+fn few_fault(
     alloc: Global,
     tag: &Start,
     outer: &[Open],
@@ -31,6 +35,42 @@ fn pairs_fault(
         seen.push(key)?;
     }
     Ok(None)
+}
+
+// The first fault of the attributes, each looked up among those before it.
+fn many_fault(
+    alloc: Global,
+    tag: &Start,
+    outer: &[Open],
+) -> Result<Option<(Fault, Place)>, AllocError>
+    ensures { IfOk result (λ f. f ≡ pairs_fault_of (tag.now ∷ tags (stack_of outer.now)) [] tag.now.pairs) }
+{
+    let mut seen = IndexSet::new(alloc);
+    for pair in tag.pairs.as_slice() {
+        let Some(key) = key_of(&pair.name, tag, outer) else {
+            return Ok(Some((Fault::Prefix, pair.name.at)));
+        };
+        let is_new = seen.insert(key)?;
+        if !is_new {
+            return Ok(Some((Fault::TwiceAttribute, pair.name.at)));
+        }
+    }
+    Ok(None)
+}
+
+// The first fault of the attributes.
+fn pairs_fault(
+    alloc: Global,
+    tag: &Start,
+    outer: &[Open],
+) -> Result<Option<(Fault, Place)>, AllocError>
+    ensures { IfOk result (λ f. f ≡ pairs_fault_of (tag.now ∷ tags (stack_of outer.now)) [] tag.now.pairs) }
+{
+    if tag.pairs.len() <= FEW {
+        few_fault(alloc, tag, outer)
+    } else {
+        many_fault(alloc, tag, outer)
+    }
 }
 
 /// The first thing wrong with the names of a start tag in the open elements, the innermost last.

@@ -5,7 +5,7 @@ use Rattle.doc_text.specs.RawTrees.{stack_of}
 use Rattle.doc_text.specs.SeenKeys.{key_in}
 use Rattle.doc_text.specs.State.{tags}
 use Rattle.doc_text.proofs.Keys.{keys_of}
-use Rattle.doc_text.proofs.reading.tag_fault.pairs_fault.Given as goal
+use Rattle.doc_text.proofs.reading.tag_fault.few_fault.Given as goal
 
 -- the attributes so far have no fault, and their keys have been seen
 abbrev pub invariant-loop-pair : goal.invariant-loop-pair

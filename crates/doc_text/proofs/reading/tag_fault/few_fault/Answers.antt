@@ -5,7 +5,7 @@ use Rattle.doc_text.specs.RawTrees.{stack_of}
 use Rattle.doc_text.specs.SeenKeys.{key_in}
 use Rattle.doc_text.specs.State.{tags}
 use Rattle.doc_text.proofs.Keys.{stops_undeclared, stops_twice, goes_on, keys_more}
-use Rattle.doc_text.proofs.reading.tag_fault.pairs_fault.Goals as goal
+use Rattle.doc_text.proofs.reading.tag_fault.few_fault.Goals as goal
 
 pub returns-in_default : goal.returns-in_default
 returns-in_default c =
