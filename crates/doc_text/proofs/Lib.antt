@@ -24,3 +24,4 @@ pub mod Bytes
 pub mod Lengths
 pub mod Paths
 pub mod RawTrees
+pub mod Stacks

@@ -12,6 +12,8 @@ pub mod Conditions
 pub mod State
 pub mod Steps
 pub mod RawTrees
+pub mod Nexts
+pub mod Spellings
 pub mod Machine
 pub mod Laws
 pub mod Encodings
