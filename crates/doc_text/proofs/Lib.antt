@@ -25,3 +25,5 @@ pub mod Lengths
 pub mod Paths
 pub mod RawTrees
 pub mod Stacks
+pub mod Keys
+pub mod Resolving

@@ -6,6 +6,7 @@ pub mod Symbols
 pub mod Raw
 pub mod Faults
 pub mod Namespaces
+pub mod Spaces
 pub mod Markup
 pub mod Form
 pub mod Conditions
@@ -14,6 +15,9 @@ pub mod Steps
 pub mod RawTrees
 pub mod Nexts
 pub mod Spellings
+pub mod Keys
+pub mod SeenKeys
+pub mod Resolving
 pub mod Machine
 pub mod Laws
 pub mod Encodings

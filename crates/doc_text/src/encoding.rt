@@ -28,7 +28,7 @@ fn after_word<'a>(bytes: &'a [u8], word: &[u8]) -> Option<&'a [u8]>
     Some(&bytes[word.len()..])
 }
 
-fn is_blank(b: u8) -> bool
+pub(crate) fn is_blank(b: u8) -> bool
     ensures { result ≡ is_blank_byte b }
 {
     matches!(b, b' ' | b'\t' | b'\n' | b'\r')

@@ -1,9 +1,13 @@
 // Reading a document: one step a character, over the elements that are open.
-pub mod citation;
-pub mod content;
-pub mod declaration;
-pub mod kinds;
-pub mod markup;
-pub mod next;
-pub mod open;
-pub mod raw;
+mod citation;
+mod content;
+mod declaration;
+mod keys;
+mod kinds;
+mod markup;
+mod names;
+mod next;
+mod open;
+mod raw;
+mod resolve;
+mod tag_fault;
