@@ -24,5 +24,6 @@ pub mod Bytes
 pub mod Lengths
 pub mod Paths
 pub mod RawTrees
+pub mod Stacks
 pub mod Keys
 pub mod Resolving

@@ -13,6 +13,8 @@ pub mod Conditions
 pub mod State
 pub mod Steps
 pub mod RawTrees
+pub mod Nexts
+pub mod Spellings
 pub mod Keys
 pub mod SeenKeys
 pub mod Resolving

@@ -68,6 +68,18 @@ abbrev pub is_greater : Kind → Bool
 is_greater Greater = true
 is_greater k = false
 
+abbrev pub is_colon : Kind → Bool
+is_colon Colon = true
+is_colon k = false
+
+abbrev pub is_semicolon : Kind → Bool
+is_semicolon Semicolon = true
+is_semicolon k = false
+
+abbrev pub is_and : Kind → Bool
+is_and And = true
+is_and k = false
+
 abbrev pub is_question : Kind → Bool
 is_question Question = true
 is_question k = false

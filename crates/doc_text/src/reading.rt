@@ -1,7 +1,13 @@
 // Reading a document: one step a character, over the elements that are open.
+mod citation;
+mod content;
+mod declaration;
 mod keys;
+mod kinds;
+mod markup;
 mod names;
-pub mod open;
-pub mod raw;
+mod next;
+mod open;
+mod raw;
 mod resolve;
 mod tag_fault;

@@ -20,8 +20,8 @@ pub enum RawTree {
     Words(Text),
 }
 
-// A text of one character.
-fn text_of(alloc: Global, c: char) -> Result<Text, AllocError>
+/// A text of one character.
+pub fn text_of(alloc: Global, c: char) -> Result<Text, AllocError>
     requires { IsTrue (is_xml_character c) }
     ensures { IfOk result (λ t. t ≡ encode_utf8 c) }
 {
