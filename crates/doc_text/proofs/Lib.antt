@@ -31,3 +31,11 @@ pub mod Rows
 pub mod Bytes
 pub mod Lengths
 pub mod Paths
+pub mod RawTrees
+pub mod Stacks
+pub mod Moves
+pub mod Sounds
+pub mod Refusals
+pub mod Running
+pub mod Keys
+pub mod Resolving

@@ -1,12 +1,7 @@
--- Why a document is refused, in the order in which kinds at one place go first; `Expected` goes last.
-pub data Fault : Type 0 where
-  BadEncoding : Fault  -- an encoding that is not read
-  BadByte : Fault  -- no character of the encoding, or of XML text
-  Expected : Fault  -- the form needs something else
-  MismatchedEnd : Fault  -- the end tag of another element
-  TwiceAttribute : Fault  -- an attribute, or a declaration of a prefix, stands twice
-  Entity : Fault  -- an entity other than the five
-  Prefix : Fault  -- a prefix that is not declared
-  TooDeep : Fault  -- more than 200 open elements
-  Trailing : Fault  -- something after the root
-  Unsupported : Fault  -- a document type declaration or CDATA
+-- Why a document is refused, in the order in which kinds at one place go first; `Expected` goes last. `BadEncoding`: an
+-- encoding that is not read. `BadByte`: no character of the encoding, or of XML text. `Expected`: the form needs
+-- something else. `MismatchedEnd`: the end tag of another element. `TwiceAttribute`: an attribute, or a declaration of a
+-- prefix, stands twice. `Entity`: an entity other than the five. `Prefix`: a prefix that is not declared. `TooDeep`: more
+-- than 200 open elements. `Trailing`: something after the root. `Unsupported`: a document type declaration or CDATA.
+pub use Rattle.doc_text.specs.declared.refusal.Fault.{Fault}
+pub use Rattle.doc_text.specs.declared.refusal.Fault.TheVariants.{BadEncoding, BadByte, Expected, MismatchedEnd, TwiceAttribute, Entity, Prefix, TooDeep, Trailing, Unsupported}

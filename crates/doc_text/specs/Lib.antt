@@ -6,11 +6,18 @@ pub mod Symbols
 pub mod Raw
 pub mod Faults
 pub mod Namespaces
+pub mod Spaces
 pub mod Markup
 pub mod Form
 pub mod Conditions
 pub mod State
 pub mod Steps
+pub mod RawTrees
+pub mod Nexts
+pub mod Spellings
+pub mod Keys
+pub mod SeenKeys
+pub mod Resolving
 pub mod Machine
 pub mod Laws
 pub mod Encodings
@@ -18,3 +25,4 @@ pub mod Characters
 pub mod Reading
 pub mod ReadBack
 pub mod Answers
+pub mod Stopping

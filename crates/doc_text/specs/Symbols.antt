@@ -1,7 +1,7 @@
 -- The characters of a document as its grammar sees them: what each may be, and where it stands.
 -- (XML 1.0, sections 2.2 and 2.3; names are those of the profile: a letter of ASCII, `_` or a character above
 -- U+007F first, then also digits, `-` and `.`.)
-use Rattle.std.specs.Prelude.{ℕ, ◌-◌, ◌||◌, ◌==◌, List, Bool, true, false, nat_le, nat_lt, if◌then◌else◌, encode_utf8}
+use Rattle.std.specs.Prelude.{ℕ, ◌-◌, ◌||◌, ◌==◌, IsTrue, List, [], ◌∷◌, Bool, true, false, nat_le, nat_lt, if◌then◌else◌, encode_utf8}
 use Rattle.std.specs.Int.{is_in_range}
 use Rattle.atl_base.specs.XmlText.{is_xml_character}
 pub use Rattle.doc_text.specs.declared.symbol.Kind.{Kind}
@@ -68,6 +68,18 @@ abbrev pub is_greater : Kind → Bool
 is_greater Greater = true
 is_greater k = false
 
+abbrev pub is_colon : Kind → Bool
+is_colon Colon = true
+is_colon k = false
+
+abbrev pub is_semicolon : Kind → Bool
+is_semicolon Semicolon = true
+is_semicolon k = false
+
+abbrev pub is_and : Kind → Bool
+is_and And = true
+is_and k = false
+
 abbrev pub is_question : Kind → Bool
 is_question Question = true
 is_question k = false
@@ -132,3 +144,12 @@ is_quote double k = false
 -- what may stand in these quotes beside nothing else being asked
 abbrev pub is_quoted : Bool → Kind → Bool
 is_quoted double k = if is_quote double k then false else is_good k
+
+-- what stands for a character stands for one of XML text
+abbrev pub IsSound : Kind → Type 0
+IsSound Bad = Unit {0}
+IsSound k = IsTrue (is_xml_character (code_of k))
+
+abbrev pub AreSound : List Symbol → Type 0
+AreSound [] = Unit {0}
+AreSound (s ∷ ss) = IsSound s.kind × AreSound ss

@@ -12,7 +12,7 @@ use crate::symbol::{Kind, Symbol};
 use atl_base::place::Place;
 use std::alloc::{AllocError, Global};
 
-fn is_xml_character(c: char) -> bool
+pub(crate) fn is_xml_character(c: char) -> bool
     ensures { result ≡ is_xml_character_of c }
 {
     matches!(c, '\t' | '\n' | '\r' | '\u{20}'..='\u{D7FF}' | '\u{E000}'..='\u{FFFD}' | '\u{10000}'..='\u{10FFFF}')

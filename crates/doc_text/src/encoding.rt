@@ -28,7 +28,7 @@ fn after_word<'a>(bytes: &'a [u8], word: &[u8]) -> Option<&'a [u8]>
     Some(&bytes[word.len()..])
 }
 
-fn is_blank(b: u8) -> bool
+pub(crate) fn is_blank(b: u8) -> bool
     ensures { result ≡ is_blank_byte b }
 {
     matches!(b, b' ' | b'\t' | b'\n' | b'\r')
@@ -141,7 +141,8 @@ fn declared_name(bytes: &[u8]) -> Option<&[u8]>
     before_quote(name, quote)
 }
 
-fn is_word(name: &[u8], word: &[u8]) -> bool
+/// The same text, with the letters of ASCII in any case.
+pub(crate) fn is_word(name: &[u8], word: &[u8]) -> bool
     ensures { result ≡ str_eq_ignore_ascii_case name.now word.now }
 {
     name.eq_ignore_ascii_case(word)

@@ -2,6 +2,21 @@
 use atl_base::place::Place;
 use std::alloc::AllocError;
 
+/// Why a document is refused.
+#[derive(Clone, Copy, Debug, PartialEq, Eq)]
+pub enum Fault {
+    BadEncoding,
+    BadByte,
+    Expected,
+    MismatchedEnd,
+    TwiceAttribute,
+    Entity,
+    Prefix,
+    TooDeep,
+    Trailing,
+    Unsupported,
+}
+
 /// Why bytes are no document, and where. Of two kinds at one place the earlier here is answered, `Expected` after all
 /// others.
 #[derive(Clone, Copy, Debug, PartialEq, Eq)]
