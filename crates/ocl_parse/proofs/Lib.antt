@@ -1,0 +1,14 @@
+pub mod Accepts
+pub mod Agrees
+pub mod Completes
+pub mod Deep
+pub mod Fine
+pub mod Led
+pub mod Lengths
+pub mod Main
+pub mod Ordered
+pub mod Over
+pub mod Resolving
+pub mod Sound
+pub mod Stopping
+pub mod Values
