@@ -22,10 +22,10 @@ use Rattle.ocl_parse.specs.declared.frame.Frame.TheVariants as F
 use Rattle.ocl_parse.specs.declared.frame.Next.TheVariants as N
 use Rattle.ocl_parse.specs.Signs.{is_iterator, is_iterate}
 use Rattle.ocl_parse.specs.Symbols.{Lexeme, lexeme}
-use Rattle.ocl_parse.specs.Depth.{deep}
+use Rattle.ocl_parse.specs.Depth.{deep, is_shallow}
 use Rattle.ocl_parse.specs.Trees.{expr, level, constant, binary, unary, variable, feature, callee, call, collection, within}
 use Rattle.ocl_parse.specs.Grammar.{fixed, named, Kind, Basic, Class, Coll, kind_spelt, kind_of, Written, Number, Words, Lone, Literal, Variable, OfClass, OfBasic, Elements, If, Round, Let, Unary, Binary, Read, Call, Loop, Iterate, Arguments, None, One, More, dot_or_arrow, spelt, listed, tree_of, trees, AreSome, Begins, Fits, FitAll}
-use Rattle.ocl_parse.specs.Machine.{Step, Goes, before, begins, argued, step, after, run}
+use Rattle.ocl_parse.specs.Machine.{Step, Goes, TooDeep, before, begins, argued, step, Deep, after, run}
 
 -- what follows an expression of level l takes nothing of it
 abbrev pub Follow : ℕ → Symbol → Type 0
@@ -115,7 +115,7 @@ follow_more l k (t ∷ r) le h = more t.symbol h
     more s f = tt
 
 -- an operator stays behind one that binds more strongly
-stays : (l : ℕ) (fs : List Frame) (e : Expr) (k : List Frame → Expr → Step) → l ≤ 4 → Admits l fs → before l fs e k ≡ k fs e
+pub stays : (l : ℕ) (fs : List Frame) (e : Expr) (k : List Frame → Expr → Step) → l ≤ 4 → Admits l fs → before l fs e k ≡ k fs e
 stays l [] e k le h = refl
 stays l (F.Left a p o ∷ fs) e k le h = let no : nat_le l (level o) ≡ false = grind (arith, nat_tests) in rw no refl
 stays l (F.Unary o p ∷ fs) e k le h = absurd (omega (arith, le, h))
@@ -175,16 +175,20 @@ module _ (b : Bool) where
       same (T.Fixed S.Arrow) f = absurd (omega (arith, f))
       same s f = refl
 
-  let_here : (fs : List Frame) (p : Place) (ts : List Lexeme) → Begins b (deep fs) → Admits 0 fs → run b fs N.Operand (fixed p S.Let ∷ ts) ≡ run b fs (N.LetName p) ts
+  pub let_here : (fs : List Frame) (p : Place) (ts : List Lexeme) → Begins b (deep fs) → Admits 0 fs → run b fs N.Operand (fixed p S.Let ∷ ts) ≡ run b fs (N.LetName p) ts
   let_here [] p ts d h = starts [] p (Goes [] (N.LetName p)) (fixed p S.Let) ts d
   let_here (F.Left a q o ∷ fs) p ts d h = absurd (omega (arith, h))
   let_here (F.Unary o q ∷ fs) p ts d h = absurd (omega (arith, h))
   let_here (f ∷ fs) p ts d h = starts (f ∷ fs) p (Goes (f ∷ fs) (N.LetName p)) (fixed p S.Let) ts d
 
-  kinds : (k : Kind) (fs : List Frame) (r : List Lexeme) → run b fs N.Kind (kind_spelt k ++ r) ≡ run b fs (N.HaveKind (kind_of k)) r
+  pub kinds : (k : Kind) (fs : List Frame) (r : List Lexeme) → run b fs N.Kind (kind_spelt k ++ r) ≡ run b fs (N.HaveKind (kind_of k)) r
   kinds (Basic p w) fs r = refl
   kinds (Class m p c) fs r = refl
   kinds (Coll p w q k s) fs r = rw (append_assoc (kind_spelt k) (fixed s (S.End E.Close) ∷ []) r) (kinds k (F.CollKind w p ∷ fs) (fixed s (S.End E.Close) ∷ r))
+
+  -- the same where it does
+  pub starts_deep : (fs : List Frame) (p : Place) (next : Step) (t : Lexeme) (r : List Lexeme) → is_shallow b (deep fs) ≡ false → after (begins b fs p next) (t ∷ r) (λ gs m. run b gs m r) ≡ Deep p
+  starts_deep fs p next t r h = rw h refl
 
   -- a name that is no variable of an iterator begins an argument
   firsts : (fs : List Frame) (c : Callee) (x : Name) (r : List Lexeme) → Begins b (suc (deep fs)) → IsSafe r → run b fs (N.First c x) r ≡ run b (F.Arguments c [] ∷ fs) (N.Word x) r
@@ -199,52 +203,70 @@ module _ (b : Bool) where
       same (T.Fixed S.Semicolon) f = absurd f
       same s f = argues s
 
-  named_opens : (fs : List Frame) (a : Expr) (arrow : Bool) (n x : Name) (r : List Lexeme) → Begins b (suc (deep fs)) → IsSafe r → run b fs (N.Argument (callee a arrow n)) (named x ∷ r) ≡ run b (F.Arguments (callee a arrow n) [] ∷ fs) N.Operand (named x ∷ r)
-  named_opens fs a false n x r d h = refl
-  named_opens fs a true n x r d h =
-      firsts fs (callee a true n) x r d h
-      ∙ sym (starts (F.Arguments (callee a true n) [] ∷ fs) x.place (Goes (F.Arguments (callee a true n) [] ∷ fs) (N.Word x)) (named x) r d)
+  -- and so one that begins it too deep
+  firsts_deep : (fs : List Frame) (c : Callee) (x : Name) (r : List Lexeme) → is_shallow b (suc (deep fs)) ≡ false → IsSafe r → run b fs (N.First c x) r ≡ Deep x.place
+  firsts_deep fs c x [] d h = rw d refl
+  firsts_deep fs c x (t ∷ r) d h = ap (λ u. after u (t ∷ r) (λ gs m. run b gs m r)) (same t.symbol h)
+    where
+      argues : (s : Symbol) → argued b fs c x s t.place ≡ TooDeep x.place
+      argues s = rw d refl
 
-  safe_dot : (arrow : Bool) → Safe (T.Fixed (dot_or_arrow arrow))
+      same : (s : Symbol) → Safe s → step b fs (N.First c x) s t.place ≡ TooDeep x.place
+      same (T.Fixed (S.End E.Bar)) f = absurd f
+      same (T.Fixed S.Semicolon) f = absurd f
+      same s f = argues s
+
+  pub named_opens : (fs : List Frame) (a : Expr) (arrow : Bool) (n x : Name) (r : List Lexeme) → IsSafe r → run b fs (N.Argument (callee a arrow n)) (named x ∷ r) ≡ run b (F.Arguments (callee a arrow n) [] ∷ fs) N.Operand (named x ∷ r)
+  named_opens fs a false n x r h = refl
+  named_opens fs a true n x r h = on (is_shallow b (suc (deep fs))) refl
+    where
+      word_next : Step
+      word_next = Goes (F.Arguments (callee a true n) [] ∷ fs) (N.Word x)
+
+      on : (t : Bool) → is_shallow b (suc (deep fs)) ≡ t → run b fs (N.First (callee a true n) x) r ≡ run b (F.Arguments (callee a true n) [] ∷ fs) N.Operand (named x ∷ r)
+      on true d = firsts fs (callee a true n) x r d h ∙ sym (starts (F.Arguments (callee a true n) [] ∷ fs) x.place word_next (named x) r d)
+      on false d = firsts_deep fs (callee a true n) x r d h ∙ sym (starts_deep (F.Arguments (callee a true n) [] ∷ fs) x.place word_next (named x) r d)
+
+  pub safe_dot : (arrow : Bool) → Safe (T.Fixed (dot_or_arrow arrow))
   safe_dot true = tt
   safe_dot false = tt
 
-  follow_dot : (arrow : Bool) → Follow 6 (T.Fixed (dot_or_arrow arrow))
+  pub follow_dot : (arrow : Bool) → Follow 6 (T.Fixed (dot_or_arrow arrow))
   follow_dot true = omega arith
   follow_dot false = omega arith
 
   -- an argument does not begin with a closing parenthesis
-  opens : (w : Written) (fs : List Frame) (a : Expr) (arrow : Bool) (n : Name) (l : ℕ) (r : List Lexeme) → Fits b l (suc (deep fs)) w → IsSafe r → run b fs (N.Argument (callee a arrow n)) (spelt w ++ r) ≡ run b (F.Arguments (callee a arrow n) [] ∷ fs) N.Operand (spelt w ++ r)
-  opens (Number p m) fs a arrow n l r f h = refl
-  opens (Words p s) fs a arrow n l r f h = refl
-  opens (Lone p c) fs a arrow n l r f h = refl
-  opens (Literal p m) fs a arrow n l r f h = refl
-  opens (Variable x) fs a arrow n l r f h = named_opens fs a arrow n x r f h
-  opens (OfClass m p c) fs a arrow n l r f h = named_opens fs a arrow n m (fixed p S.Bang ∷ named c ∷ r) f tt
-  opens (OfBasic p w) fs a arrow n l r f h = refl
-  opens (Elements p w q es s) fs a arrow n l r f h = refl
-  opens (If p c q x s y t) fs a arrow n l r f h = refl
-  opens (Round p w q) fs a arrow n l r f h = refl
-  opens (Let p m q k s e t w) fs a arrow n l r f h = refl
-  opens (Unary p U.Not w) fs a arrow n l r f h = refl
-  opens (Unary p U.Neg w) fs a arrow n l r f h = refl
-  opens (Binary x p o y) fs a arrow n l r f h =
-      rw (append_assoc (spelt x) (fixed p (S.Operator o) ∷ spelt y) r) (opens x fs a arrow n (level o) (fixed p (S.Operator o) ∷ (spelt y ++ r)) f.1 tt)
-  opens (Read x p m) fs a arrow n l r f h =
-      rw (append_assoc (spelt x) (fixed p S.Dot ∷ named m ∷ []) r) (opens x fs a arrow n 6 (fixed p S.Dot ∷ named m ∷ r) f tt)
-  opens (Call x w p m q es s) fs a arrow n l r f h =
+  pub opens : (w : Written) (fs : List Frame) (a : Expr) (arrow : Bool) (n : Name) (r : List Lexeme) → IsSafe r → run b fs (N.Argument (callee a arrow n)) (spelt w ++ r) ≡ run b (F.Arguments (callee a arrow n) [] ∷ fs) N.Operand (spelt w ++ r)
+  opens (Number p m) fs a arrow n r h = refl
+  opens (Words p s) fs a arrow n r h = refl
+  opens (Lone p c) fs a arrow n r h = refl
+  opens (Literal p m) fs a arrow n r h = refl
+  opens (Variable x) fs a arrow n r h = named_opens fs a arrow n x r h
+  opens (OfClass m p c) fs a arrow n r h = named_opens fs a arrow n m (fixed p S.Bang ∷ named c ∷ r) tt
+  opens (OfBasic p w) fs a arrow n r h = refl
+  opens (Elements p w q es s) fs a arrow n r h = refl
+  opens (If p c q x s y t) fs a arrow n r h = refl
+  opens (Round p w q) fs a arrow n r h = refl
+  opens (Let p m q k s e t w) fs a arrow n r h = refl
+  opens (Unary p U.Not w) fs a arrow n r h = refl
+  opens (Unary p U.Neg w) fs a arrow n r h = refl
+  opens (Binary x p o y) fs a arrow n r h =
+      rw (append_assoc (spelt x) (fixed p (S.Operator o) ∷ spelt y) r) (opens x fs a arrow n (fixed p (S.Operator o) ∷ (spelt y ++ r)) tt)
+  opens (Read x p m) fs a arrow n r h =
+      rw (append_assoc (spelt x) (fixed p S.Dot ∷ named m ∷ []) r) (opens x fs a arrow n (fixed p S.Dot ∷ named m ∷ r) tt)
+  opens (Call x w p m q es s) fs a arrow n r h =
       let tail = named m ∷ fixed q S.Open ∷ (listed es ++ (fixed s (S.End E.Close) ∷ [])) in
-      rw (append_assoc (spelt x) (fixed p (dot_or_arrow w) ∷ tail) r) (opens x fs a arrow n 6 (fixed p (dot_or_arrow w) ∷ (tail ++ r)) f.0 (safe_dot w))
-  opens (Loop x p m q v s e t) fs a arrow n l r f h =
+      rw (append_assoc (spelt x) (fixed p (dot_or_arrow w) ∷ tail) r) (opens x fs a arrow n (fixed p (dot_or_arrow w) ∷ (tail ++ r)) (safe_dot w))
+  opens (Loop x p m q v s e t) fs a arrow n r h =
       let tail = fixed p S.Arrow ∷ named m ∷ fixed q S.Open ∷ named v ∷ fixed s (S.End E.Bar) ∷ (spelt e ++ (fixed t (S.End E.Close) ∷ [])) in
-      rw (append_assoc (spelt x) tail r) (opens x fs a arrow n 6 (tail ++ r) f.1 tt)
-  opens (Iterate x p m q v s y t k u i z e j) fs a arrow n l r f h =
+      rw (append_assoc (spelt x) tail r) (opens x fs a arrow n (tail ++ r) tt)
+  opens (Iterate x p m q v s y t k u i z e j) fs a arrow n r h =
       let tail = fixed p S.Arrow ∷ named m ∷ fixed q S.Open ∷ named v ∷ fixed s S.Semicolon ∷ named y ∷ fixed t S.Colon
       ∷ (kind_spelt k ++ (fixed u (S.Operator O.Eq) ∷ (spelt i ++ (fixed z (S.End E.Bar) ∷ (spelt e ++ (fixed j (S.End E.Close) ∷ [])))))) in
-      rw (append_assoc (spelt x) tail r) (opens x fs a arrow n 6 (tail ++ r) f.1 tt)
+      rw (append_assoc (spelt x) tail r) (opens x fs a arrow n (tail ++ r) tt)
 
   -- nor does an element
-  opens_element : (w : Written) (fs : List Frame) (c : CollWord) (a : Place) (r : List Lexeme) → run b fs (N.Element c a) (spelt w ++ r) ≡ run b (F.Elements c a [] ∷ fs) N.Operand (spelt w ++ r)
+  pub opens_element : (w : Written) (fs : List Frame) (c : CollWord) (a : Place) (r : List Lexeme) → run b fs (N.Element c a) (spelt w ++ r) ≡ run b (F.Elements c a [] ∷ fs) N.Operand (spelt w ++ r)
   opens_element (Number p m) fs c a r = refl
   opens_element (Words p s) fs c a r = refl
   opens_element (Lone p k) fs c a r = refl
@@ -274,7 +296,7 @@ module _ (b : Bool) where
       rw (append_assoc (spelt x) tail r) (opens_element x fs c a (tail ++ r))
 
   -- some arguments were read, all but the last one put away
-  record ReadAll (es : Arguments) (fs : List Frame) (c : Callee) : Type 0 where
+  pub record ReadAll (es : Arguments) (fs : List Frame) (c : Callee) : Type 0 where
     pub front : List Expr
     pub last : Expr
     pub all : front ++ (last ∷ []) ≡ trees es
@@ -286,7 +308,7 @@ module _ (b : Bool) where
   called (More es p e) fs c t r h = let g = h tt in g.by (fixed t (S.End E.Close) ∷ r) tt tt ∙ ap (λ l. run b fs (N.Have (call c l)) r) g.all
 
   -- and so some elements
-  record ReadElements (es : Arguments) (fs : List Frame) (c : CollWord) (a : Place) : Type 0 where
+  pub record ReadElements (es : Arguments) (fs : List Frame) (c : CollWord) (a : Place) : Type 0 where
     pub front : List Expr
     pub last : Expr
     pub all : front ++ (last ∷ []) ≡ trees es
@@ -297,15 +319,15 @@ module _ (b : Bool) where
   collected (One e) fs c a t r h = let g = h tt in g.by (fixed t (S.End E.CloseBrace) ∷ r) tt ∙ ap (λ l. run b fs (N.Have (collection c a l)) r) g.all
   collected (More es p e) fs c a t r h = let g = h tt in g.by (fixed t (S.End E.CloseBrace) ∷ r) tt ∙ ap (λ l. run b fs (N.Have (collection c a l)) r) g.all
 
-  calls : (fs : List Frame) (e : Expr) (arrow : Bool) (p : Place) (n : Name) (q : Place) (r : List Lexeme) → run b fs (N.Have e) (fixed p (dot_or_arrow arrow) ∷ named n ∷ fixed q S.Open ∷ r) ≡ run b fs (N.Argument (callee e arrow n)) r
+  pub calls : (fs : List Frame) (e : Expr) (arrow : Bool) (p : Place) (n : Name) (q : Place) (r : List Lexeme) → run b fs (N.Have e) (fixed p (dot_or_arrow arrow) ∷ named n ∷ fixed q S.Open ∷ r) ≡ run b fs (N.Argument (callee e arrow n)) r
   calls fs e true p n q r = refl
   calls fs e false p n q r = refl
 
-  iterates : (fs : List Frame) (e : Expr) (p : Place) (n : Name) (q : Place) (x : Name) (t : Place) (r : List Lexeme) → is_iterator n.text ≡ true
+  pub iterates : (fs : List Frame) (e : Expr) (p : Place) (n : Name) (q : Place) (x : Name) (t : Place) (r : List Lexeme) → is_iterator n.text ≡ true
       → run b fs (N.Have e) (fixed p S.Arrow ∷ named n ∷ fixed q S.Open ∷ named x ∷ fixed t (S.End E.Bar) ∷ r) ≡ run b (F.Body (callee e true n) x ∷ fs) N.Operand r
   iterates fs e p n q x t r h = rw h refl
 
-  folds : (fs : List Frame) (e : Expr) (p : Place) (n : Name) (q : Place) (x : Name) (t : Place) (y : Name) (s : Place) (r : List Lexeme) → is_iterate n.text ≡ true
+  pub folds : (fs : List Frame) (e : Expr) (p : Place) (n : Name) (q : Place) (x : Name) (t : Place) (y : Name) (s : Place) (r : List Lexeme) → is_iterate n.text ≡ true
       → run b fs (N.Have e) (fixed p S.Arrow ∷ named n ∷ fixed q S.Open ∷ named x ∷ fixed t S.Semicolon ∷ named y ∷ fixed s S.Colon ∷ r) ≡ run b (F.OutcomeKind (callee e true n) x y ∷ fs) N.Kind r
   folds fs e p n q x t y s r h = rw h refl
 
@@ -398,9 +420,9 @@ module _ (b : Bool) where
         ∙ reads i 0 (F.Start c v y (kind_of k) ∷ fs) (fixed z (S.End E.Bar) ∷ (spelt e ++ (fixed j (S.End E.Close) ∷ r))) f.2 tt tt
         ∙ reads e 0 (F.Fold c v y (kind_of k) (tree_of i) ∷ fs) (fixed j (S.End E.Close) ∷ r) f.3 tt tt))))
 
-    reads_all : (es : Arguments) (fs : List Frame) (x : Expr) (arrow : Bool) (n : Name) → FitAll b (suc (deep fs)) es → AreSome es → ReadAll es fs (callee x arrow n)
+    pub reads_all : (es : Arguments) (fs : List Frame) (x : Expr) (arrow : Bool) (n : Name) → FitAll b (suc (deep fs)) es → AreSome es → ReadAll es fs (callee x arrow n)
     reads_all None fs x arrow n f g = absurd g
-    reads_all (One e) fs x arrow n f g = record { front = []; last = tree_of e; all = refl; by = λ r h s. opens e fs x arrow n 0 r f s ∙ reads e 0 (F.Arguments (callee x arrow n) [] ∷ fs) r f tt h }
+    reads_all (One e) fs x arrow n f g = record { front = []; last = tree_of e; all = refl; by = λ r h s. opens e fs x arrow n r s ∙ reads e 0 (F.Arguments (callee x arrow n) [] ∷ fs) r f tt h }
     reads_all (More es p e) fs x arrow n f g =
         let h = reads_all es fs x arrow n f.1 f.0 in
         record {
@@ -412,7 +434,7 @@ module _ (b : Bool) where
               (h.by (fixed p (S.End E.Comma) ∷ (spelt e ++ r)) tt tt ∙ ap (λ l. run b (F.Arguments (callee x arrow n) l ∷ fs) N.Operand (spelt e ++ r)) h.all ∙ reads e 0 (F.Arguments (callee x arrow n) (trees es) ∷ fs) r f.2 tt k);
         }
 
-    reads_elements : (es : Arguments) (fs : List Frame) (c : CollWord) (a : Place) → FitAll b (suc (deep fs)) es → AreSome es → ReadElements es fs c a
+    pub reads_elements : (es : Arguments) (fs : List Frame) (c : CollWord) (a : Place) → FitAll b (suc (deep fs)) es → AreSome es → ReadElements es fs c a
     reads_elements None fs c a f g = absurd g
     reads_elements (One e) fs c a f g = record { front = []; last = tree_of e; all = refl; by = λ r h. opens_element e fs c a r ∙ reads e 0 (F.Elements c a [] ∷ fs) r f tt h }
     reads_elements (More es p e) fs c a f g =

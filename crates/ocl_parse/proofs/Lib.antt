@@ -1,5 +1,6 @@
 pub mod Accepts
 pub mod Agrees
+pub mod Breaks
 pub mod Completes
 pub mod Deep
 pub mod Fine

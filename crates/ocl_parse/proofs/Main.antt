@@ -1,6 +1,7 @@
 -- Reading is exact: what is read is the longest expression, and each refusal is where no expression goes on.
 use Rattle.std.proofs.Common.{◌≡◌, List, [], ◌∷◌, ◌++◌, length, refl, sym, ap, ◌∙◌, subst, arith, length-append}
-use Rattle.std.specs.Prelude.{Bool, true, false}
+use Rattle.std.specs.Prelude.{Bool, true, false, Option, Some}
+use Rattle.std.specs.Prelude.{None as Nowhere}
 use Rattle.std.proofs.lemmas.List.{append-nil}
 use Rattle.atl_base.specs.declared.place.Place.{Place}
 use Rattle.atl_tree.specs.declared.expr.Expr.{Expr}
@@ -10,15 +11,17 @@ use Rattle.ocl_parse.specs.declared.frame.Next.{Next}
 use Rattle.ocl_parse.specs.declared.frame.Next.TheVariants as N
 use Rattle.ocl_parse.specs.Symbols.{Lexeme}
 use Rattle.ocl_parse.specs.Trees.{binary, unary, within}
-use Rattle.ocl_parse.specs.Grammar.{spelt, IsExpr}
+use Rattle.ocl_parse.specs.Grammar.{Written, Fits, spelt, tree_of, IsExpr}
+use Rattle.ocl_parse.specs.TooDeep.{first_deep}
 use Rattle.ocl_parse.specs.Machine.{Step, Goes, Stops, Refuses, TooDeep, step, last, End, Read, Expected, Deep, over, after, ended, run, read}
-use Rattle.ocl_parse.specs.Laws.{GoesOn, StopsAt, NoneEnds, Tells, Exact}
+use Rattle.ocl_parse.specs.Laws.{GoesOn, StopsAt, NoneEnds, FailsAt, Tells, Exact}
 use Rattle.ocl_parse.proofs.Accepts.{reads}
 use Rattle.ocl_parse.proofs.Ordered.{InOrder, StepInOrder, step_ordered}
 use Rattle.ocl_parse.proofs.Sound.{ReadOf, sound}
 use Rattle.ocl_parse.proofs.Completes.{completes}
 use Rattle.ocl_parse.proofs.Agrees.{Agrees, agrees, last_agrees}
 use Rattle.ocl_parse.proofs.Fine.{Fine, fine}
+use Rattle.ocl_parse.proofs.Breaks.{fits, tries}
 
 accepts : (b : Bool) (ts : List Lexeme) (e : Expr) → IsExpr b ts e → read b ts ≡ Read e []
 accepts b ts e h =
@@ -238,6 +241,23 @@ halt_rest gs n [] end d k = sym (ap rest_of k) ∙ on (last true gs n) (λ y. d 
     on (TooDeep p) d = absurd (d tt)
 halt_rest gs n (t ∷ r) end d k = sym (ap rest_of k.1) ∙ leaves (step true gs n t.symbol t.place) (t ∷ r) ended k.0 (λ y. d (subst IsDeep k.1 y))
 
+-- what a place is taken for
+abbrev place_at : Place → End → Place
+place_at d (Deep p) = p
+place_at d x = d
+
+deepest : (w : Written) (p : Place) → Fits false 0 0 w → read true (spelt w) ≡ Deep p → first_deep 0 w ≡ Some p
+deepest w p f h = on (first_deep 0 w) refl
+  where
+    on : (o : Option Place) → first_deep 0 w ≡ o → o ≡ Some p
+    on Nowhere e = absurd (deep_not (read true (spelt w)) (tree_of w) [] p (accepts true (spelt w) (tree_of w) (w, fits w 0 0 f e, refl, refl)) h)
+    on (Some x) e = ap (λ y. Some (place_at x y)) (sym (tries w 0 [] [] x f tt e) ∙ ap (read true) (append-nil (spelt w)) ∙ h)
+
+fails_at : (front rest : List Lexeme) (gs : List Frame) (n : Next) (p : Place) → ((more : List Lexeme) → read true (front ++ more) ≡ run true gs n more) → HaltsAt gs n rest (Deep p) → FailsAt p front rest
+fails_at front [] gs n p h k = tt
+fails_at front (t ∷ r) gs n p h k = λ more w f e.
+    deepest w p f (ap (read true) e ∙ h (t ∷ more) ∙ too_deep (step true gs n t.symbol t.place) (t ∷ r) (t ∷ more) (λ hs m. run true hs m more) p k.0 k.1)
+
 tells : (ts : List Lexeme) (end : End) → Halt [] N.Operand ts end → ReadOf true ts end → Tells ts end
 tells ts (Read e r) x y =
     let d : IsDeep (Read e r) → ⊥ = λ z. z in
@@ -260,6 +280,7 @@ tells ts (Deep p) x y = (
   goes_on x.front x.gs x.n x.ordered (x.leads false),
   stops_strict x.front x.rest x.gs x.n p (x.leads true) x.here,
   none_ends_strict x.front x.rest x.gs x.n p (x.leads true) x.here,
+  fails_at x.front x.rest x.gs x.n p (x.leads true) x.here,
 )
 
 -- all of an expression is read, and the reading halts behind it
