@@ -443,3 +443,42 @@ fn expressions_nest_at_most_200(rt: HostRuntime) -> Result<(), Fail> {
     }
     Ok(())
 }
+
+// How many tokens the expression has that the text begins with, or 0.
+fn read_length(alloc: Global, text: &str) -> Result<usize, Fail> {
+    let text = Text::from_bytes(alloc, text.as_bytes())?;
+    if text.bytes().len() > 4294967294 {
+        return Ok(0);
+    }
+    let Ok(list) = tokens(alloc, &text) else {
+        return Ok(0);
+    };
+    match parse_expr(alloc, &list, 0) {
+        Ok((_, after)) => Ok(after),
+        Err(_) => Ok(0),
+    }
+}
+
+// How many tokens of the first text and so many of the second are read as one expression.
+fn chain_length(alloc: Global, first: &str, link: &str, links: u32) -> Result<usize, Fail> {
+    let chain = nested(alloc, link, links, "")?;
+    let text = format!(in alloc; "{first}{}", chain.as_str())?;
+    read_length(alloc, text.as_str())
+}
+
+#[test]
+fn a_long_sum_is_read(rt: HostRuntime) -> Result<(), Fail> {
+    assert_eq!(rt; chain_length(rt.alloc(), "1", "+1", 100_000)?, 200_001);
+    Ok(())
+}
+
+#[test]
+fn long_chains_are_read(rt: HostRuntime) -> Result<(), Fail> {
+    assert_eq!(rt; chain_length(rt.alloc(), "a", ".b", 50_000)?, 100_001);
+    assert_eq!(rt; chain_length(rt.alloc(), "a", ".b()", 25_000)?, 100_001);
+    assert_eq!(rt;
+        chain_length(rt.alloc(), "a", "->any(x|y)", 10_000)?,
+        70_001
+    );
+    Ok(())
+}
