@@ -204,7 +204,7 @@ module _ (b : Bool) where
       same s f = argues s
 
   -- and so one that begins it too deep
-  firsts_deep : (fs : List Frame) (c : Callee) (x : Name) (r : List Lexeme) → is_shallow b (suc (deep fs)) ≡ false → IsSafe r → run b fs (N.First c x) r ≡ Deep x.place
+  pub firsts_deep : (fs : List Frame) (c : Callee) (x : Name) (r : List Lexeme) → is_shallow b (suc (deep fs)) ≡ false → IsSafe r → run b fs (N.First c x) r ≡ Deep x.place
   firsts_deep fs c x [] d h = rw d refl
   firsts_deep fs c x (t ∷ r) d h = ap (λ u. after u (t ∷ r) (λ gs m. run b gs m r)) (same t.symbol h)
     where

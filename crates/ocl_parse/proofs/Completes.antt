@@ -29,7 +29,7 @@ use Rattle.ocl_parse.proofs.Ordered.{Plain, Typed, InOrder}
 abbrev nowhere : Place
 nowhere = record { line = 1; column = 1 }
 
-abbrev put : Sign → Lexeme
+abbrev pub put : Sign → Lexeme
 put s = fixed nowhere s
 
 abbrev self_ : Lexeme
@@ -42,7 +42,7 @@ abbrev noname : Name
 noname = name nowhere []
 
 -- symbols that end what is open
-abbrev closing : List Frame → List Lexeme
+abbrev pub closing : List Frame → List Lexeme
 closing [] = []
 closing (F.Round ∷ fs) = put (S.End E.Close) ∷ closing fs
 closing (F.Arguments c es ∷ fs) = put (S.End E.Close) ∷ closing fs
@@ -148,7 +148,7 @@ pub record Completion (fs : List Frame) (m : Next) : Type 0 where
 completed : (fs : List Frame) (m : Next) (ts : List Lexeme) → Ends fs m ts → Completion fs m
 completed fs m ts h = record { more = ts; ends = h }
 
-first_ends : (fs : List Frame) (c : Callee) (n : Name) → Plain fs → Ends fs (N.First c n) (put (S.End E.Close) ∷ closing fs)
+pub first_ends : (fs : List Frame) (c : Callee) (n : Name) → Plain fs → Ends fs (N.First c n) (put (S.End E.Close) ∷ closing fs)
 first_ends fs c n h = have_ends fs (call c (variable n ∷ [])) h
 
 pub completes : (fs : List Frame) (m : Next) → InOrder fs m → Completion fs m

@@ -3,7 +3,9 @@ pub mod Agrees
 pub mod Breaks
 pub mod Completes
 pub mod Deep
+pub mod Deeper
 pub mod Fine
+pub mod Halts
 pub mod Led
 pub mod Lengths
 pub mod Main

@@ -6,15 +6,13 @@ use Rattle.std.proofs.lemmas.List.{append-nil}
 use Rattle.atl_base.specs.declared.place.Place.{Place}
 use Rattle.atl_tree.specs.declared.expr.Expr.{Expr}
 use Rattle.ocl_parse.specs.declared.frame.Frame.{Frame}
-use Rattle.ocl_parse.specs.declared.frame.Frame.TheVariants as F
 use Rattle.ocl_parse.specs.declared.frame.Next.{Next}
 use Rattle.ocl_parse.specs.declared.frame.Next.TheVariants as N
 use Rattle.ocl_parse.specs.Symbols.{Lexeme}
-use Rattle.ocl_parse.specs.Trees.{binary, unary, within}
 use Rattle.ocl_parse.specs.Grammar.{Written, Fits, spelt, tree_of, IsExpr}
 use Rattle.ocl_parse.specs.TooDeep.{first_deep}
 use Rattle.ocl_parse.specs.Machine.{Step, Goes, Stops, Refuses, TooDeep, step, last, End, Read, Expected, Deep, over, after, ended, run, read}
-use Rattle.ocl_parse.specs.Laws.{GoesOn, StopsAt, NoneEnds, FailsAt, Tells, Exact}
+use Rattle.ocl_parse.specs.Laws.{GoesOn, StopsAt, NoneEnds, FailsAt, HasDeep, Tells, Exact}
 use Rattle.ocl_parse.proofs.Accepts.{reads}
 use Rattle.ocl_parse.proofs.Ordered.{InOrder, StepInOrder, step_ordered}
 use Rattle.ocl_parse.proofs.Sound.{ReadOf, sound}
@@ -22,103 +20,12 @@ use Rattle.ocl_parse.proofs.Completes.{completes}
 use Rattle.ocl_parse.proofs.Agrees.{Agrees, agrees, last_agrees}
 use Rattle.ocl_parse.proofs.Fine.{Fine, fine}
 use Rattle.ocl_parse.proofs.Breaks.{fits, tries}
+use Rattle.ocl_parse.proofs.Halts.{rest_of, IsSome, IsRead, IsDeep, over_rest, Ends, HaltsAt, Halt, halts, place_at, deep_not, too_deep}
+use Rattle.ocl_parse.proofs.Deeper.{Deeper, deeper}
 
 accepts : (b : Bool) (ts : List Lexeme) (e : Expr) → IsExpr b ts e → read b ts ≡ Read e []
 accepts b ts e h =
     subst (λ l. read b l ≡ Read e []) h.2 (ap (read b) (sym (append-nil (spelt h.0))) ∙ reads b h.0 0 [] [] h.1 tt tt ∙ ap (λ x. Read x []) h.3)
-
--- what an answer leaves
-abbrev rest_of : End → List Lexeme
-rest_of (Read e r) = r
-rest_of (Expected r) = r
-rest_of (Deep p) = []
-
-abbrev IsSome : List Lexeme → Type 0
-IsSome [] = ⊥
-IsSome (t ∷ r) = Unit {0}
-
-abbrev IsRead : End → Type 0
-IsRead (Read e r) = Unit {0}
-IsRead x = ⊥
-
-abbrev IsExpected : End → Type 0
-IsExpected (Expected r) = Unit {0}
-IsExpected x = ⊥
-
-abbrev IsDeep : End → Type 0
-IsDeep (Deep p) = Unit {0}
-IsDeep x = ⊥
-
-over_rest : (fs : List Frame) (e : Expr) (rest : List Lexeme) → rest_of (over fs e rest) ≡ rest
-over_rest [] e rest = refl
-over_rest (F.Left a p o ∷ fs) e rest = over_rest fs (binary a p o e) rest
-over_rest (F.Unary o p ∷ fs) e rest = over_rest fs (unary p o e) rest
-over_rest (F.Within p n t a ∷ fs) e rest = over_rest fs (within p n t a e) rest
-over_rest (f ∷ fs) e rest = refl
-
-over_shallow : (fs : List Frame) (e : Expr) (rest : List Lexeme) → IsDeep (over fs e rest) → ⊥
-over_shallow [] e rest h = h
-over_shallow (F.Left a p o ∷ fs) e rest h = over_shallow fs (binary a p o e) rest h
-over_shallow (F.Unary o p ∷ fs) e rest h = over_shallow fs (unary p o e) rest h
-over_shallow (F.Within p n t a ∷ fs) e rest h = over_shallow fs (within p n t a e) rest h
-over_shallow (f ∷ fs) e rest h = h
-
--- a step that ends the reading
-abbrev Ends : Step → Type 0
-Ends (Goes gs m) = ⊥
-Ends u = Unit {0}
-
--- the reading comes to a state and ends there
-abbrev HaltsAt : List Frame → Next → List Lexeme → End → Type 0
-HaltsAt gs n [] end = after (last true gs n) [] ended ≡ end
-HaltsAt gs n (t ∷ r) end = Ends (step true gs n t.symbol t.place) × (after (step true gs n t.symbol t.place) (t ∷ r) ended ≡ end)
-
-record Halt (fs : List Frame) (m : Next) (ts : List Lexeme) (end : End) : Type 0 where
-  pub front : List Lexeme
-  pub rest : List Lexeme
-  pub whole : ts ≡ front ++ rest
-  pub gs : List Frame
-  pub n : Next
-  pub ordered : InOrder gs n
-  pub leads : (b : Bool) (more : List Lexeme) → run b fs m (front ++ more) ≡ run b gs n more
-  pub here : HaltsAt gs n rest end
-
-halts : (ts : List Lexeme) (fs : List Frame) (m : Next) → InOrder fs m → Halt fs m ts (run true fs m ts)
-halts [] fs m o = record { front = []; rest = []; whole = refl; gs = fs; n = m; ordered = o; leads = λ b more. refl; here = refl }
-halts (t ∷ ts) fs m o = on (λ gs n. halts ts gs n) (step true fs m t.symbol t.place) refl
-  where
-    at_once : (u : Step) → step true fs m t.symbol t.place ≡ u → Ends u → after u (t ∷ ts) ended ≡ after u (t ∷ ts) (λ gs n. run true gs n ts) → Halt fs m (t ∷ ts) (after u (t ∷ ts) (λ gs n. run true gs n ts))
-    at_once u h e k = record {
-      front = [];
-      rest = t ∷ ts;
-      whole = refl;
-      gs = fs;
-      n = m;
-      ordered = o;
-      leads = λ b more. refl;
-      here = (subst Ends (sym h) e, ap (λ v. after v (t ∷ ts) ended) h ∙ k);
-    }
-
-    both : (gs : List Frame) (n : Next) → step true fs m t.symbol t.place ≡ Goes gs n → (b : Bool) → step b fs m t.symbol t.place ≡ Goes gs n
-    both gs n h true = h
-    both gs n h false = subst (λ v. Agrees v (step false fs m t.symbol t.place)) h (agrees fs m t.symbol t.place)
-
-    on : ((gs : List Frame) (n : Next) → InOrder gs n → Halt gs n ts (run true gs n ts)) → (u : Step) → step true fs m t.symbol t.place ≡ u → Halt fs m (t ∷ ts) (after u (t ∷ ts) (λ gs n. run true gs n ts))
-    on again (Goes gs n) h =
-        let x = again gs n (subst StepInOrder h (step_ordered true fs m t.symbol t.place o)) in
-        record {
-          front = t ∷ x.front;
-          rest = x.rest;
-          whole = ap (λ l. t ∷ l) x.whole;
-          gs = x.gs;
-          n = x.n;
-          ordered = x.ordered;
-          leads = λ b more. ap (λ v. after v (t ∷ (x.front ++ more)) (λ hs k. run b hs k (x.front ++ more))) (both gs n h b) ∙ x.leads b more;
-          here = x.here;
-        }
-    on again (Stops gs e) h = at_once (Stops gs e) h tt refl
-    on again Refuses h = at_once Refuses h tt refl
-    on again (TooDeep p) h = at_once (TooDeep p) h tt refl
 
 -- an ending step that is not too deep leaves all of the rest
 leaves : (u : Step) (rest : List Lexeme) (k : List Frame → Next → End) → Ends u → (IsDeep (after u rest ended) → ⊥) → rest_of (after u rest k) ≡ rest
@@ -188,16 +95,6 @@ none_ends front rest gs n s h k = λ e x. on rest k e (sym (h []) ∙ ap (read f
         let same : step false gs n t.symbol t.place ≡ step true gs n t.symbol t.place = alike (step true gs n t.symbol t.place) (step false gs n t.symbol t.place) (t ∷ r) k.0 (shallow (step true gs n t.symbol t.place) (t ∷ r) k.1) (agrees gs n t.symbol t.place) in
         unfine e (step true gs n t.symbol t.place) (t ∷ r) (subst (Fine e) same (fine false gs n e t.symbol t.place x)) k.0 k.1
 
-deep_not : (x : End) (e : Expr) (r : List Lexeme) (p : Place) → x ≡ Read e r → x ≡ Deep p → ⊥
-deep_not x e r p h k = subst IsRead (sym h ∙ k) tt
-
--- a step that is too deep is so whatever follows
-too_deep : (u : Step) (r s : List Lexeme) (k : List Frame → Next → End) (p : Place) → Ends u → after u r ended ≡ Deep p → after u s k ≡ Deep p
-too_deep (Goes gs m) r s k p e h = absurd e
-too_deep (Stops gs a) r s k p e h = absurd (over_shallow gs a r (subst IsDeep (sym h) tt))
-too_deep Refuses r s k p e h = absurd (subst IsExpected h tt)
-too_deep (TooDeep q) r s k p e h = h
-
 stops_strict : (front rest : List Lexeme) (gs : List Frame) (n : Next) (p : Place) → ((more : List Lexeme) → read true (front ++ more) ≡ run true gs n more) → HaltsAt gs n rest (Deep p) → StopsAt true front rest
 stops_strict front [] gs n p h k = tt
 stops_strict front (t ∷ r) gs n p h k = λ more e x.
@@ -241,17 +138,17 @@ halt_rest gs n [] end d k = sym (ap rest_of k) ∙ on (last true gs n) (λ y. d 
     on (TooDeep p) d = absurd (d tt)
 halt_rest gs n (t ∷ r) end d k = sym (ap rest_of k.1) ∙ leaves (step true gs n t.symbol t.place) (t ∷ r) ended k.0 (λ y. d (subst IsDeep k.1 y))
 
--- what a place is taken for
-abbrev place_at : Place → End → Place
-place_at d (Deep p) = p
-place_at d x = d
-
 deepest : (w : Written) (p : Place) → Fits false 0 0 w → read true (spelt w) ≡ Deep p → first_deep 0 w ≡ Some p
 deepest w p f h = on (first_deep 0 w) refl
   where
     on : (o : Option Place) → first_deep 0 w ≡ o → o ≡ Some p
     on Nowhere e = absurd (deep_not (read true (spelt w)) (tree_of w) [] p (accepts true (spelt w) (tree_of w) (w, fits w 0 0 f e, refl, refl)) h)
     on (Some x) e = ap (λ y. Some (place_at x y)) (sym (tries w 0 [] [] x f tt e) ∙ ap (read true) (append-nil (spelt w)) ∙ h)
+
+has_deep : (front : List Lexeme) (gs : List Frame) (n : Next) (p : Place) → ((b : Bool) (more : List Lexeme) → read b (front ++ more) ≡ run b gs n more) → Deeper gs n p → HasDeep p front
+has_deep front gs n p h d =
+    let x = spoken (front ++ d.more) d.tree (h false d.more ∙ d.loose) in
+    (d.more, x.0, x.1, x.2, deepest x.0 p x.1 (ap (read true) x.2 ∙ h true d.more ∙ d.strict))
 
 fails_at : (front rest : List Lexeme) (gs : List Frame) (n : Next) (p : Place) → ((more : List Lexeme) → read true (front ++ more) ≡ run true gs n more) → HaltsAt gs n rest (Deep p) → FailsAt p front rest
 fails_at front [] gs n p h k = tt
@@ -277,7 +174,7 @@ tells ts (Deep p) x y = (
   x.front,
   x.rest,
   x.whole,
-  goes_on x.front x.gs x.n x.ordered (x.leads false),
+  has_deep x.front x.gs x.n p x.leads (deeper x.gs x.n x.rest p x.ordered x.here),
   stops_strict x.front x.rest x.gs x.n p (x.leads true) x.here,
   none_ends_strict x.front x.rest x.gs x.n p (x.leads true) x.here,
   fails_at x.front x.rest x.gs x.n p (x.leads true) x.here,

@@ -26,10 +26,14 @@ abbrev pub FailsAt : Place → List Lexeme → List Lexeme → Type 0
 FailsAt p front [] = Unit {0}
 FailsAt p front (t ∷ rest) = (more : List Lexeme) (w : Written) → Fits false 0 0 w → spelt w ≡ front ++ (t ∷ more) → first_deep 0 w ≡ Some p
 
+-- some expression of the grammar, whatever its depth, begins so, and the first of it that stands too deep begins at the place
+abbrev pub HasDeep : Place → List Lexeme → Type 0
+HasDeep p front = (more : List Lexeme) × (w : Written) × Fits false 0 0 w × (spelt w ≡ front ++ more) × (first_deep 0 w ≡ Some p)
+
 abbrev pub Tells : List Lexeme → End → Type 0
 Tells ts (Read e rest) = (front : List Lexeme) × (ts ≡ front ++ rest) × IsExpr true front e × StopsAt false front rest
 Tells ts (Expected rest) = (front : List Lexeme) × (ts ≡ front ++ rest) × GoesOn front × StopsAt false front rest × NoneEnds false front
-Tells ts (Deep p) = (front : List Lexeme) × (rest : List Lexeme) × (ts ≡ front ++ rest) × GoesOn front × StopsAt true front rest × NoneEnds true front × FailsAt p front rest
+Tells ts (Deep p) = (front : List Lexeme) × (rest : List Lexeme) × (ts ≡ front ++ rest) × HasDeep p front × StopsAt true front rest × NoneEnds true front × FailsAt p front rest
 
 pub record Exact (ts : List Lexeme) : Type 0 where
   pub tells : Tells ts (read true ts)
