@@ -31,8 +31,8 @@ fn has_fraction(text: &[u8]) -> bool
     text.contains(&b'.')
 }
 
-// Whether a word after the token is read as a name.
-fn leads_name(token: &Token) -> bool
+/// Whether a word after the token is read as a name.
+pub fn leads_name(token: &Token) -> bool
     ensures { result ≡ leads_name_of token.now }
 {
     match token.sort {
@@ -44,8 +44,8 @@ fn leads_name(token: &Token) -> bool
     }
 }
 
-// Whether the tokens begin with an arrow, so that a word before them is read as a name.
-fn begins_arrow(tokens: &[Token]) -> bool
+/// Whether the tokens begin with an arrow, so that a word before them is read as a name.
+pub fn begins_arrow(tokens: &[Token]) -> bool
     ensures { result ≡ begins_arrow_of tokens.now }
 {
     match tokens {

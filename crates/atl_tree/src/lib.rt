@@ -3,7 +3,7 @@
 
 mod cursor;
 pub mod expr;
-mod judge;
+pub mod judge;
 pub mod kind;
 pub mod laws;
 pub mod lex;

@@ -1,0 +1,17 @@
+pub mod Accepts
+pub mod Agrees
+pub mod Breaks
+pub mod Completes
+pub mod Deep
+pub mod Deeper
+pub mod Fine
+pub mod Halts
+pub mod Led
+pub mod Lengths
+pub mod Main
+pub mod Ordered
+pub mod Over
+pub mod Resolving
+pub mod Sound
+pub mod Stopping
+pub mod Values

@@ -1,0 +1,31 @@
+-- Where the expression ends before a token.
+use Rattle.std.proofs.Common.{◌≡◌, ℕ, ◌+◌, ◌-◌, ◌<◌, ◌||◌, List, ◌∷◌, Bool, true, Ok, length, drop, get_or, sym, ap, ◌∙◌, arith, length-drop}
+use Rattle.std.proofs.lemmas.List.{drop_more}
+use Rattle.atl_base.specs.declared.place.Place.{Place}
+use Rattle.atl_tree.specs.declared.token.Token.{Token}
+use Rattle.atl_tree.specs.declared.expr.Expr.{Expr}
+use Rattle.atl_tree.specs.Tokens.{leads_name, begins_arrow}
+use Rattle.ocl_parse.specs.declared.symbol.Symbol.{Symbol}
+use Rattle.ocl_parse.specs.declared.frame.Frame.{Frame}
+use Rattle.ocl_parse.specs.declared.frame.Next.{Next}
+use Rattle.ocl_parse.specs.Symbols.{Lexeme, lexemes, symbol_of}
+use Rattle.ocl_parse.specs.Machine.{Stops, Read, step, over, after, run, read}
+use Rattle.ocl_parse.specs.Reading.{lexemes_at, told, expr_in}
+use Rattle.ocl_parse.proofs.Lengths.{length_lexemes}
+
+left_over : (ts : List Token) (i : ℕ) (led : Bool) → i < length ts → length ts - length (lexemes led (drop i ts)) ≡ i
+left_over ts i led h = omega (arith, h, length_lexemes led (drop i ts), length-drop i ts)
+
+pub stops_here : (ts : List Token) (end : Place) (from i : ℕ) (led named : Bool) (fs gs : List Frame) (m : Next) (t : Token) (s : Symbol) (e whole : Expr)
+    → i < length ts → t ≡ get_or ts i t → run true fs m (lexemes led (drop i ts)) ≡ read true (lexemes_at from ts)
+    → s ≡ symbol_of t.sort t.text named → named ≡ (led || begins_arrow (drop (i + 1) ts)) → step true fs m s t.place ≡ Stops gs e
+    → ((rest : List Lexeme) → over gs e rest ≡ Read whole rest) → expr_in ts end from ≡ Ok (whole, i)
+stops_here ts end from i led named fs gs m t s e whole h is inv si ni st ov =
+    let parts : drop i ts ≡ t ∷ drop (i + 1) ts = drop_more ts i t h ∙ ap (λ u. u ∷ drop (i + 1) ts) (sym is) in
+    let spelled : symbol_of t.sort t.text (led || begins_arrow (drop (i + 1) ts)) ≡ s = ap (symbol_of t.sort t.text) (sym ni) ∙ sym si in
+    let rest : List Lexeme = lexemes led (t ∷ drop (i + 1) ts) in
+    let reads : read true (lexemes_at from ts) ≡ Read whole (lexemes led (drop i ts)) =
+    sym inv ∙ ap (λ l. run true fs m (lexemes led l)) parts
+    ∙ ap (λ v. after v rest (λ hs n. run true hs n (lexemes (leads_name t) (drop (i + 1) ts)))) (ap (λ v. step true fs m v t.place) spelled ∙ st)
+    ∙ ov rest ∙ ap (λ l. Read whole (lexemes led l)) (sym parts) in
+    ap (told (length ts) end) reads ∙ ap (λ n. Ok (whole, n)) (left_over ts i led h)

@@ -1,0 +1,5 @@
+use Rattle.ocl_parse.proofs.Main.{exact}
+use Rattle.ocl_parse.proofs.laws.reading_is_exact.Goals as goal
+
+pub returns : goal.returns
+returns c = exact

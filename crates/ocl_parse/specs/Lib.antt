@@ -1,0 +1,9 @@
+pub mod Signs
+pub mod Symbols
+pub mod TooDeep
+pub mod Depth
+pub mod Trees
+pub mod Machine
+pub mod Reading
+pub mod Grammar
+pub mod Laws

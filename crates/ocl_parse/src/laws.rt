@@ -1,0 +1,9 @@
+//! The laws of reading, over the definitions alone. Each function has a law as its contract, and does nothing.
+ghost use Rattle.std.specs.Prelude.{List};
+ghost use Rattle.ocl_parse.specs.Symbols.{Lexeme};
+ghost use Rattle.ocl_parse.specs.Laws.{Exact};
+
+/// What is read is the longest expression of the grammar, and a refusal stands where no expression goes on.
+pub fn reading_is_exact()
+    ensures { (ts : List Lexeme) → Exact ts }
+{}
