@@ -1,19 +1,20 @@
 -- A model as contracts see it: a finite map from object numbers to objects, each with its class and a slot for each feature
 -- of the class, and the list of roots. (EMF: EObject, eClass, eGet, eContents.)
-use Rattle.std.specs.Prelude.{ℕ, ◌+◌, ◌==◌, ◌<◌, ◌≡◌, Bool, true, false, List, [], ◌∷◌, ◌++◌, length, filter, slice_get, slice_set, slice_index_or, position, Option, Some, None, option_map, is_some, count_by, if◌then◌else◌}
+use Rattle.std.specs.Prelude.{ℕ, ◌+◌, ◌==◌, ◌<◌, ◌≡◌, Bool, false, List, [], ◌∷◌, length, slice_get, slice_set, slice_index_or, position, Option, Some, None, option_map, is_some, count_by, if◌then◌else◌}
 use Rattle.std.specs.Option.{option_map_or}
 use Rattle.std.specs.List.{list_any}
 use Rattle.atl_base.specs.declared.numbers.ClassId.{ClassId}
 use Rattle.atl_base.specs.declared.numbers.FeatId.{FeatId}
 use Rattle.atl_base.specs.declared.numbers.ObjId.{ObjId}
-use Rattle.ecore_meta.specs.declared.parts.Class.{Class}
 use Rattle.ecore_meta.specs.declared.parts.Feature.{Feature}
 use Rattle.ecore_meta.specs.declared.parts.Parts.{Parts}
 use Rattle.ecore_meta.specs.Inheritance.{features}
 use Rattle.ecore_meta.specs.Valid.{is_reference, is_containment, opposite_of}
 use Rattle.model_store.specs.declared.parts.Cellv.{Cellv}
-use Rattle.model_store.specs.declared.parts.Cellv.TheVariants.{Words, Int, Truth, Literal, Obj}
+use Rattle.model_store.specs.declared.parts.Cellv.TheVariants.{Obj}
 use Rattle.model_store.specs.declared.parts.Object.{Object}
+use Rattle.model_store.specs.declared.refusal.StoreRefusal.{StoreRefusal}
+use Rattle.model_store.specs.declared.refusal.StoreRefusal.TheVariants.{NoObject, NoFeature}
 
 -- At the place n of the objects stands the object of number n, or none where that object is gone: so there are as many
 -- places as numbers were given, and none is given again.
@@ -73,12 +74,33 @@ slot_in meta f object = option_map_or (λ k. slice_index_or object.slots k []) (
 abbrev pub slot : Contents → ObjId → FeatId → List Cellv
 slot m o f = option_map_or (slot_in m.meta f) (object_at m.objects o) []
 
--- the object with other values in the slot of a feature
-abbrev pub with_slot : Parts → FeatId → List Cellv → Object → Object
-with_slot meta f cells object = option_map_or (λ k. record object { slots = slice_set object.slots k cells }) (place_in meta object.class f) object
+-- other values in the slot of a feature, where there is one
+abbrev pub with_slot : Object → ℕ → List Cellv → Object
+with_slot object k cells = record object { slots = slice_set object.slots k cells }
 
 abbrev pub set_slot : Contents → ObjId → FeatId → List Cellv → Contents
-set_slot m o f cells = record m { objects = slice_set m.objects o.0 (option_map (with_slot m.meta f cells) (object_at m.objects o)) }
+set_slot m o f cells = option_map_or
+    (λ object. option_map_or (λ k. record m { objects = slice_set m.objects o.0 (Some (with_slot object k cells)) }) (place_in m.meta object.class f) m)
+    (object_at m.objects o)
+    m
+
+-- Why a call has no slot to speak of: there is no such object, or else its class has no such feature.
+abbrev pub refusal : Contents → ObjId → FeatId → Option StoreRefusal
+refusal m o f = option_map_or (λ object. if is_some (place_in m.meta object.class f) then None else Some NoFeature) (object_at m.objects o) (Some NoObject)
+
+-- As many slots as features, at each object. This is the form of the lists alone, and says nothing of what the slots hold.
+pub record IsShaped (meta : Parts) (object : Object) : Type 0 where
+  pub class_within : object.class.0 < length meta.classes
+  pub slots : length object.slots ≡ length (features meta.classes object.class)
+
+abbrev pub AreShaped : Parts → List (Option Object) → Type 0
+AreShaped meta objects = (n : ℕ) (object : Object) → slice_index_or objects n None ≡ Some object → IsShaped meta object
+
+-- there is an object, and a slot of it at this place
+pub record HasPlace (meta : Parts) (objects : List (Option Object)) (o : ObjId) (at : ℕ) : Type 0 where
+  pub object : Object
+  pub there : object_at objects o ≡ Some object
+  pub within : at < length object.slots
 
 -- ## References
 
@@ -119,11 +141,14 @@ holding_feature meta p (f ∷ fs) (cells ∷ slots) = if (if contains meta f the
 abbrev pub holding_in : Parts → ObjId → Object → Option FeatId
 holding_in meta p object = holding_feature meta p (features meta.classes object.class) object.slots
 
+abbrev pub holding_place : Parts → ObjId → Option Object → Option FeatId
+holding_place meta p None = None
+holding_place meta p (Some object) = holding_in meta p object
+
 -- of the objects from a number on
 abbrev pub holder_from : Parts → ObjId → ℕ → List (Option Object) → Option (ObjId × FeatId)
 holder_from meta p n [] = None
-holder_from meta p n (None ∷ objects) = holder_from meta p (n + 1) objects
-holder_from meta p n (Some object ∷ objects) = option_map_or (λ f. Some (record { 0 = n }, f)) (holding_in meta p object) (holder_from meta p (n + 1) objects)
+holder_from meta p n (place ∷ places) = option_map_or (λ f. Some (record { 0 = n }, f)) (holding_place meta p place) (holder_from meta p (n + 1) places)
 
 abbrev pub holder : Contents → ObjId → Option (ObjId × FeatId)
 holder m p = holder_from m.meta p 0 m.objects

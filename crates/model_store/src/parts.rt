@@ -1,5 +1,8 @@
 // What a model is made of, as plain data. `specs/Contents.antt` says how contracts read it, `specs/Valid.antt` which of it
 // is a model.
+ghost use Rattle.std.specs.Prelude.{◌≡◌};
+ghost use Rattle.model_store.specs.Contents.{refers_to};
+
 use atl_base::numbers::{ClassId, FeatId, ObjId};
 use atl_base::text::Text;
 use sqlite_items::Items;
@@ -36,4 +39,16 @@ pub enum Cell {
     Container(ObjId),
     /// The objects of a class.
     Extent(ClassId),
+}
+
+impl Cellv {
+    // Whether the value is this object.
+    pub(crate) fn refers_to(&self, p: ObjId) -> bool
+        ensures { result ≡ refers_to p self.now }
+    {
+        match self {
+            Cellv::Obj(q) => q.0 == p.0,
+            _ => false,
+        }
+    }
 }

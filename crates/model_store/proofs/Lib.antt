@@ -1,0 +1,3 @@
+mod Holders
+mod Numbers
+mod Updates
