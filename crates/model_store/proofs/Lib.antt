@@ -1,3 +1,5 @@
+mod Chains
 mod Holders
 mod Numbers
+mod Trees
 mod Updates

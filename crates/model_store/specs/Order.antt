@@ -1,6 +1,6 @@
 -- What contains what, and the order of the objects: each before its contents, from the roots on.
 -- (EMF: eContents, eAllContents; a containment reference holds its contents in the order of its slot.)
-use Rattle.std.specs.Prelude.{◌≡◌, ℕ, zero, suc, ◌<◌, List, [], ◌∷◌, ◌++◌, length, flat_map, Contains, if◌then◌else◌}
+use Rattle.std.specs.Prelude.{◌≡◌, ℕ, zero, suc, List, [], ◌∷◌, ◌++◌, length, flat_map, Contains, if◌then◌else◌}
 use Rattle.std.specs.Option.{option_map_or, IsSomeAnd}
 use Rattle.atl_base.specs.declared.numbers.ClassId.{ClassId}
 use Rattle.atl_base.specs.declared.numbers.FeatId.{FeatId}
@@ -23,14 +23,14 @@ contents_of meta object = contents_in meta (features meta.classes object.class) 
 abbrev pub contents : Contents → ObjId → List ObjId
 contents m o = option_map_or (contents_of m.meta) (object_at m.objects o) []
 
--- an object stands in another, directly or through others
-pub data StandsIn (m : Contents) : ObjId → ObjId → Type 0 where
-  directly : {p o : ObjId} → Contains (contents m o) p → StandsIn m p o
-  through : {p q o : ObjId} → Contains (contents m q) p → StandsIn m q o → StandsIn m p o
+-- An object encloses itself, and what its contents enclose.
+pub data Encloses (m : Contents) : ObjId → ObjId → Type 0 where
+  itself : {o : ObjId} → Encloses m o o
+  by_content : {o q p : ObjId} → Contains (contents m o) q → Encloses m q p → Encloses m o p
 
--- A containment cycle: an object that stands in itself.
+-- A containment cycle: an object is enclosed by one of its own contents.
 abbrev pub IsOnCycle : Contents → ObjId → Type 0
-IsOnCycle m o = StandsIn m o o
+IsOnCycle m o = (q : ObjId) × Contains (contents m o) q × Encloses m q o
 
 abbrev pub HasNoCycle : Contents → Type 0
 HasNoCycle m = (o : ObjId) → ¬ (IsOnCycle m o)
@@ -43,7 +43,7 @@ tree_within (suc n) m o = o ∷ flat_map (tree_within n m) (contents m o)
 -- An object and all that stands in it. Without a cycle nothing stands more levels below than there are objects.
 -- So tree o ≡ o ∷ flat_map tree (contents o): `tree_law`.
 unfoldable pub tree : Contents → ObjId → List ObjId
-tree m o = tree_within (length m.objects) m o
+tree m o = tree_within (suc (length m.objects)) m o
 
 -- all objects from the roots on
 abbrev pub preorder : Contents → List ObjId
@@ -51,7 +51,7 @@ preorder m = flat_map (tree m) m.roots
 
 -- that equation, at each object
 abbrev pub IsTreeLaw : Contents → Type 0
-IsTreeLaw m = (o : ObjId) → o.0 < length m.objects → tree m o ≡ o ∷ flat_map (tree m) (contents m o)
+IsTreeLaw m = (o : ObjId) → tree m o ≡ o ∷ flat_map (tree m) (contents m o)
 
 -- an object's class is a class or inherits from it
 abbrev pub IsOf : Contents → ClassId → ObjId → Type 0

@@ -6,6 +6,7 @@ mod attributes;
 mod copies;
 mod lookups;
 pub mod model;
+mod order;
 mod pairs;
 pub mod parts;
 pub mod refusal;

@@ -125,7 +125,7 @@ impl Model {
     }
 
     // The object of a number.
-    fn object(&self, o: ObjId) -> Option<&Object>
+    pub(crate) fn object(&self, o: ObjId) -> Option<&Object>
         ensures object { option_copied result ≡ object_at self.now.objects o }
         ensures shaped { IfSome result (λ object. IsShaped self.now.meta object.now) }
     {
