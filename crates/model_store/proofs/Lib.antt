@@ -3,3 +3,5 @@ mod Holders
 mod Numbers
 mod Trees
 mod Updates
+pub mod Slots
+pub mod Thinned
