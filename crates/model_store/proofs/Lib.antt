@@ -5,3 +5,4 @@ mod Trees
 mod Updates
 pub mod Slots
 pub mod Thinned
+pub mod Holding
