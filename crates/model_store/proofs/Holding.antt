@@ -1,9 +1,10 @@
 -- An object has no container exactly where no containment slot holds it.
-use Rattle.std.proofs.Common.{◌≡◌, ℕ, zero, suc, ◌+◌, ◌<◌, ◌≤◌, List, [], ◌∷◌, length, refl, sym, ap, ◌∙◌, subst, arith, Option, Some, None}
-use Rattle.std.specs.Prelude.{◌==◌, Bool, true, false, slice_index_or, option_map, if◌then◌else◌, Contains}
+use Rattle.std.proofs.Common.{◌≡◌, ℕ, zero, suc, ◌+◌, ◌<◌, ◌≤◌, List, [], ◌∷◌, length, refl, sym, ap, ◌∙◌, subst, arith, cond, Option, Some, None}
+use Rattle.std.specs.Prelude.{◌==◌, nat_lt, Bool, true, false, slice_index_or, option_map, if◌then◌else◌, Contains}
 use Rattle.std.specs.Option.{option_map_or}
-use Rattle.std.proofs.lemmas.Bool.{eqb-true, eq-eqb, true≢false}
-use Rattle.std.proofs.lemmas.List.Quantifiers.{position-Some, position-None}
+use Rattle.std.proofs.lemmas.Bool.{eqb-true, eq-eqb, lt-ltb, true≢false, false_from_ne_true}
+use Rattle.std.proofs.lemmas.List.Quantifiers.{position-Some}
+use Rattle.std.proofs.lemmas.List.Sums.{position_or_len_is}
 use Rattle.std.proofs.lemmas.Option.{none-some, same_Some}
 use Rattle.atl_base.specs.declared.numbers.ClassId.{ClassId}
 use Rattle.atl_base.specs.declared.numbers.FeatId.{FeatId}
@@ -130,13 +131,18 @@ SeenOnce meta class = (i j : ℕ) (f : FeatId) → i < length (features meta.cla
 
 -- a feature that is seen has its place
 pub place_is : (meta : Parts) (class : ClassId) → SeenOnce meta class → (k : ℕ) (f : FeatId) → k < length (features meta.classes class) → slice_index_or (features meta.classes class) k f ≡ f → place_in meta class f ≡ Some k
-place_is meta class once k f l e = on (place_in meta class f) refl
+place_is meta class once k f l e =
+    let n = position_or_len_is test seen k f (omega arith) before (λ w. ap test e ∙ eq-eqb f.0 f.0 refl) in
+    ap (λ i. cond (nat_lt i (length seen)) (Some i) None) n ∙ ap (λ b. cond b (Some k) None) (lt-ltb k (length seen) l)
   where
-    on : (x : Option ℕ) → place_in meta class f ≡ x → x ≡ Some k
-    on None i = absurd (true≢false (sym (eq-eqb (slice_index_or (features meta.classes class) k f).0 f.0 (ap (λ g. g.0) e)) ∙ position-None (λ g. g.0 == f.0) (features meta.classes class) i k f l))
-    on (Some j) i =
-        let x = position-Some (λ g. g.0 == f.0) (features meta.classes class) j f i in
-        ap Some (once j k f x.0 l (same_feature (slice_index_or (features meta.classes class) j f) f (eqb-true (slice_index_or (features meta.classes class) j f).0 f.0 x.1)) e)
+    seen : List FeatId
+    seen = features meta.classes class
+
+    test : FeatId → Bool
+    test g = g.0 == f.0
+
+    before : (i : ℕ) → i < k → test (slice_index_or seen i f) ≡ false
+    before i lt = false_from_ne_true (test (slice_index_or seen i f)) (λ t. absurd (omega (arith, lt, once i k f (omega (arith, lt, l)) l (same_feature (slice_index_or seen i f) f (eqb-true (slice_index_or seen i f).0 f.0 t)) e)))
 
 pub refers_by : (m : Contents) (o p : ObjId) (f : FeatId) (object : Object) (k : ℕ) → SeenOnce m.meta object.class → object_at m.objects o ≡ Some object → k < length (features m.meta.classes object.class) → slice_index_or (features m.meta.classes object.class) k f ≡ f → Contains (slice_index_or object.slots k []) (Obj p) → Refers m o f p
 refers_by m o p f object k once there l e h =
