@@ -6,3 +6,4 @@ mod Updates
 pub mod Slots
 pub mod Thinned
 pub mod Holding
+pub mod Created
