@@ -112,19 +112,19 @@ referred_to m model o f q h = there_by_type m f q (all_contained (IsOfType m f) 
 -- ## The new object among the others
 
 module _ (m : Contents) (model : IsModel m) (class : ClassId) (within : class.0 < length m.meta.classes) where
-  abbrev n : ℕ
+  abbrev pub n : ℕ
   n = length m.objects
 
-  abbrev now : Contents
+  abbrev pub now : Contents
   now = created m class
 
-  abbrev new : ObjId
+  abbrev pub new : ObjId
   new = record { 0 = n }
 
-  there : object_at now.objects new ≡ Some (fresh m.meta class)
+  pub there : object_at now.objects new ≡ Some (fresh m.meta class)
   there = get_or_push m.objects (Some (fresh m.meta class)) None n refl
 
-  elsewhere : (p : ObjId) → p.0 ≢ n → object_at now.objects p ≡ object_at m.objects p
+  pub elsewhere : (p : ObjId) → p.0 ≢ n → object_at now.objects p ≡ object_at m.objects p
   elsewhere p d = ⊎_elim
       (λ (l : p.0 < n). get_or_append_left m.objects (Some (fresh m.meta class) ∷ []) None p.0 l)
       (λ (l : n ≤ p.0). get_or_past (m.objects ++ Some (fresh m.meta class) ∷ []) p.0 None (omega (arith, l, length_push m.objects (Some (fresh m.meta class)), gap p l d)) ∙ sym (get_or_past m.objects p.0 None l))
@@ -137,18 +137,18 @@ module _ (m : Contents) (model : IsModel m) (class : ClassId) (within : class.0 
   none_before : object_at m.objects new ≡ None
   none_before = get_or_past m.objects n None (omega arith)
 
-  same_class : (p : ObjId) → p.0 ≢ n → class_of now p ≡ class_of m p
+  pub same_class : (p : ObjId) → p.0 ≢ n → class_of now p ≡ class_of m p
   same_class p d = ap (option_map (λ object. object.class)) (elsewhere p d)
 
-  same_slot : (p : ObjId) (f : FeatId) → p.0 ≢ n → slot now p f ≡ slot m p f
+  pub same_slot : (p : ObjId) (f : FeatId) → p.0 ≢ n → slot now p f ≡ slot m p f
   same_slot p f d = ap (λ x. option_map_or (slot_in m.meta f) x []) (elsewhere p d)
 
   -- an object of before
-  old_object : (p : ObjId) (x : Object) → object_at m.objects p ≡ Some x → p.0 ≢ n
+  pub old_object : (p : ObjId) (x : Object) → object_at m.objects p ≡ Some x → p.0 ≢ n
   old_object p x e i = none-some x (sym none_before ∙ ap (λ k. slice_index_or m.objects k None) (sym i) ∙ e)
 
   -- the new one refers to none
-  new_slot : (f : FeatId) (q : ObjId) → Refers now new f q → ⊥
+  pub new_slot : (f : FeatId) (q : ObjId) → Refers now new f q → ⊥
   new_slot f q h = by_place (place_in m.meta class f) refl (subst (λ x. Contains (option_map_or (slot_in m.meta f) x []) (Obj q)) there h)
     where
       by_place : (k : Option ℕ) → place_in m.meta class f ≡ k → Contains (option_map_or (λ k. slice_index_or (map (initial m.meta) (features m.meta.classes class)) k []) k []) (Obj q) → ⊥
@@ -158,14 +158,14 @@ module _ (m : Contents) (model : IsModel m) (class : ClassId) (within : class.0 
           no_object_in m.meta (slice_index_or (features m.meta.classes class) k f) q
             (subst (λ cells. Contains cells (Obj q)) (get_or-map (initial m.meta) (features m.meta.classes class) k f [] x.0) h)
 
-  referred_before : (o : ObjId) (f : FeatId) (q : ObjId) → Refers now o f q → (o.0 ≢ n) × Refers m o f q
+  pub referred_before : (o : ObjId) (f : FeatId) (q : ObjId) → Refers now o f q → (o.0 ≢ n) × Refers m o f q
   referred_before o f q h = ⊎_elim
       (λ (e : o.0 ≡ n). absurd (new_slot f q (subst (λ p. Refers now p f q) (same_object o new e) h)))
       (λ (d : o.0 ≢ n). (d, subst (λ cells. Contains cells (Obj q)) (same_slot o f d) h))
       (cases_eq o.0 n)
 
   -- what was referred to was an object
-  was_object : (o : ObjId) (f : FeatId) (q : ObjId) → Refers m o f q → q.0 ≢ n
+  pub was_object : (o : ObjId) (f : FeatId) (q : ObjId) → Refers m o f q → q.0 ≢ n
   was_object o f q h = let x = referred_to m model o f q h in old_object q x.0 x.1
 
   -- types are as before
@@ -181,7 +181,7 @@ module _ (m : Contents) (model : IsModel m) (class : ClassId) (within : class.0 
   still_of_kind (Kind.Refer k inside back) (Obj q) h = still_of k q h
   still_of_kind kind v h = absurd h
 
-  still_fits : (f : FeatId) (cells : List Cellv) → Fits m f cells → Fits now f cells
+  pub still_fits : (f : FeatId) (cells : List Cellv) → Fits m f cells → Fits now f cells
   still_fits f cells h = record {
     typed = λ k d l. some_and (slice_get m.meta.features f.0) (λ feature. IsOfKind m feature.kind (slice_index_or cells k d)) (λ feature. IsOfKind now feature.kind (slice_index_or cells k d)) (λ feature. still_of_kind feature.kind (slice_index_or cells k d)) (h.typed k d l);
     single = h.single;

@@ -7,3 +7,4 @@ pub mod Slots
 pub mod Thinned
 pub mod Holding
 pub mod Created
+pub mod CreatedModel
