@@ -113,7 +113,7 @@ no_reference meta f h = on (slice_get meta.features f.0) h
         many false = ap (λ r. if r then [] else option_map_or (λ text. value_of_text meta feature.kind text ∷ []) feature.default []) h
 
 -- a single-valued attribute with a default begins with it
-has_default : (meta : Parts) (f : FeatId) → refers meta f ≡ false → is_many meta f ≡ false → IsSomeAnd (slice_get meta.features f.0) (λ feature. IsSome feature.default) → initial meta f ≢ []
+pub has_default : (meta : Parts) (f : FeatId) → refers meta f ≡ false → is_many meta f ≡ false → IsSomeAnd (slice_get meta.features f.0) (λ feature. IsSome feature.default) → initial meta f ≢ []
 has_default meta f r m d = on (slice_get meta.features f.0) r m d
   where
     IsFull : List Cellv → Type 0

@@ -8,3 +8,4 @@ pub mod Thinned
 pub mod Holding
 pub mod Created
 pub mod CreatedModel
+pub mod AttributeWrites

@@ -77,10 +77,10 @@ module _ (m : Contents) (shaped : AreShaped m.meta m.objects) (o : ObjId) (f : F
   bound : o.0 < length m.objects
   bound = found_within m.objects o.0 a.object a.there
 
-  here : object_at after.objects o ≡ Some (with_slot a.object a.place cells)
+  pub here : object_at after.objects o ≡ Some (with_slot a.object a.place cells)
   here = get_or-set_same m.objects o.0 (Some (with_slot a.object a.place cells)) None bound
 
-  elsewhere : (p : ObjId) → p.0 ≢ o.0 → object_at after.objects p ≡ object_at m.objects p
+  pub elsewhere : (p : ObjId) → p.0 ≢ o.0 → object_at after.objects p ≡ object_at m.objects p
   elsewhere p n = get_or-set_other m.objects o.0 p.0 (Some (with_slot a.object a.place cells)) None n
 
   -- what an object is apart from its slots stays
