@@ -9,3 +9,4 @@ pub mod Holding
 pub mod Created
 pub mod CreatedModel
 pub mod AttributeWrites
+pub mod Removing
