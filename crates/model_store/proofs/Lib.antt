@@ -1,0 +1,12 @@
+mod Chains
+mod Holders
+mod Numbers
+mod Trees
+mod Updates
+pub mod Slots
+pub mod Thinned
+pub mod Holding
+pub mod Created
+pub mod CreatedModel
+pub mod AttributeWrites
+pub mod Removing

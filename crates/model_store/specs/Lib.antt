@@ -1,0 +1,4 @@
+pub mod Contents
+pub mod Order
+pub mod Valid
+pub mod Writes

@@ -1,0 +1,179 @@
+// Writing to attributes: values appended or replaced, and the defaults.
+ghost use Rattle.std.specs.Prelude.{◌≡◌, ◌<◌, length, position, IfOk, OnOk};
+ghost use Rattle.std.specs.List.{list_any};
+ghost use Rattle.std.specs.Str.{bytes_eq};
+ghost use Rattle.std.specs.Str.Parse.{signed_digits_value};
+ghost use Rattle.ecore_meta.specs.Valid.{IsTextOf, IsIntText};
+ghost use Rattle.model_store.specs.Writes.{same_value, with_value, appended, written, initial, value_of_text, literal_number, literal_of, fresh};
+
+use crate::copies::{copy_slot, copy_value};
+use crate::lookups::{feature, is_many, is_reference, is_unique};
+use crate::parts::{Cellv, Object, Slot};
+use atl_base::numbers::{ClassId, FeatId};
+use atl_base::text::Text;
+use ecore_meta::metamodel::Metamodel;
+use ecore_meta::parts::{FeatKind, Literal};
+use sqlite_items::Items;
+use std::alloc::{AllocError, Global};
+
+// Whether two values are the same.
+fn same_value(a: &Cellv, b: &Cellv) -> bool
+    ensures { result ≡ same_value a.now b.now }
+{
+    match (a, b) {
+        (Cellv::Words(a), Cellv::Words(b)) => a.as_str() == b.as_str(),
+        (Cellv::Int(a), Cellv::Int(b)) => *a == *b,
+        (Cellv::Truth(a), Cellv::Truth(b)) => *a == *b,
+        (Cellv::Literal(a), Cellv::Literal(b)) => *a == *b,
+        (Cellv::Obj(a), Cellv::Obj(b)) => a.0 == b.0,
+        _ => false,
+    }
+}
+
+// Whether a slot has a value.
+fn has_value(cells: &[Cellv], value: &Cellv) -> bool
+    ensures { result ≡ list_any (same_value value.now) cells.now }
+{
+    cells.iter().any(|cell| same_value(value, cell))
+}
+
+// A value more, unless the feature is unique and has it.
+fn append_value(
+    alloc: Global,
+    unique: bool,
+    cells: &mut Slot,
+    value: &Cellv,
+) -> Result<(), AllocError>
+    ensures { OnOk result (cells.new ≡ with_value unique cells.old value.now) }
+{
+    if unique && has_value(cells.as_slice(), value) {
+        return Ok(());
+    }
+    cells.push(copy_value(alloc, value)?)
+}
+
+// The values of a slot, and others after them.
+fn append_all(
+    alloc: Global,
+    unique: bool,
+    cells: &[Cellv],
+    values: &[Cellv],
+) -> Result<Slot, AllocError>
+    ensures { IfOk result (λ slot. slot ≡ appended unique cells.now values.now) }
+{
+    let mut slot = copy_slot(alloc, cells)?;
+    for value in values {
+        append_value(alloc, unique, &mut slot, value)?;
+    }
+    Ok(slot)
+}
+
+// The place of the literal of this text.
+fn place_of_literal(literals: &[Literal], text: &str) -> Option<usize>
+    ensures { result ≡ position (λ l. bytes_eq l.text text.now) literals.now }
+{
+    literals.iter().position(|l| l.text.as_str() == text)
+}
+
+// The number of the literal at a place.
+fn literal_number(place: Option<usize>) -> u32
+    ensures { result ≡ literal_number place }
+{
+    match place {
+        Some(at) if at < 4_294_967_296 => at as u32,
+        _ => 0,
+    }
+}
+
+// The number of the literal of this text.
+fn literal_of(meta: &Metamodel, place: u32, text: &str) -> u32
+    ensures { result ≡ literal_of meta.now place text.now }
+{
+    match meta.enums().get(place as usize) {
+        Some(found) => literal_number(place_of_literal(found.literals.as_slice(), text)),
+        None => 0,
+    }
+}
+
+// The number that a text stands for.
+fn number_of(text: &str) -> i64
+    requires { IsIntText text.now }
+    ensures { result ≡ signed_digits_value 10 text.now }
+{
+    match text.parse::<i64>() {
+        Ok(number) => number,
+        Err(_) => 0,
+    }
+}
+
+// The value that a text of an attribute's type stands for.
+fn value_of_text(
+    alloc: Global,
+    meta: &Metamodel,
+    kind: FeatKind,
+    text: &Text,
+) -> Result<Cellv, AllocError>
+    requires { IsTextOf meta.now kind text.now }
+    ensures { IfOk result (λ value. value ≡ value_of_text meta.now kind text.now) }
+{
+    match kind {
+        FeatKind::Int => Ok(Cellv::Int(number_of(text.as_str()))),
+        FeatKind::Truth => Ok(Cellv::Truth(text.as_str() == "true")),
+        FeatKind::Enum(place) => Ok(Cellv::Literal(literal_of(meta, place, text.as_str()))),
+        _ => Ok(Cellv::Words(text.copy(alloc)?)),
+    }
+}
+
+// What a slot holds that nothing was written to.
+fn initial(alloc: Global, meta: &Metamodel, f: FeatId) -> Result<Slot, AllocError>
+    ensures { IfOk result (λ slot. slot ≡ initial meta.now f) }
+{
+    let mut slot = Items::new(alloc);
+    let Some(feature) = feature(meta, f) else {
+        return Ok(slot);
+    };
+    if feature.many || is_reference(feature.kind) {
+        return Ok(slot);
+    }
+    if let Some(text) = &feature.default {
+        slot.push(value_of_text(alloc, meta, feature.kind, text)?)?;
+    }
+    Ok(slot)
+}
+
+// An object that nothing was written to.
+pub(crate) fn fresh(alloc: Global, meta: &Metamodel, class: ClassId) -> Result<Object, AllocError>
+    requires { class.0 < length meta.now.classes }
+    ensures { IfOk result (λ object. object ≡ fresh meta.now class) }
+{
+    let features = meta.features_seen(class);
+    let mut slots = Vec::with_capacity(alloc, features.len())?;
+    for f in features {
+        slots.push(initial(alloc, meta, *f)?)?;
+    }
+    Ok(Object {
+        class,
+        slots: Items::from_vec(slots),
+    })
+}
+
+// What a slot of an attribute holds after a write.
+pub(crate) fn written(
+    alloc: Global,
+    meta: &Metamodel,
+    f: FeatId,
+    cells: &[Cellv],
+    values: &[Cellv],
+) -> Result<Slot, AllocError>
+    ensures { IfOk result (λ slot. slot ≡ written meta.now f cells.now values.now) }
+{
+    if is_many(meta, f) {
+        return append_all(alloc, is_unique(meta, f), cells, values);
+    }
+    let Some(value) = values.first() else {
+        return initial(alloc, meta, f);
+    };
+    let mut slot = Items::new(alloc);
+    slot.push(copy_value(alloc, value)?)?;
+    Ok(slot)
+}

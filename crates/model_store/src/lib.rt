@@ -1,0 +1,15 @@
+//! Models: objects of a metamodel's classes, their slots, what contains what, and the order and paths that follow.
+#![tactic(auto)]
+
+mod adding;
+mod attributes;
+mod copies;
+pub mod laws;
+mod lookups;
+pub mod model;
+mod order;
+mod pairs;
+pub mod parts;
+pub mod refusal;
+mod roots;
+mod types;
