@@ -1,0 +1,2 @@
+//! Metamodels from documents.
+#![tactic(auto)]
