@@ -88,16 +88,16 @@ abbrev pub class_children : List Prefix → List Element → List Entry
 class_children outer [] = []
 class_children outer (e ∷ es) =
     (if is_named (codes "eStructuralFeatures") e then feature (site outer e)
-     else if is_named (codes "eSuperTypes") e && is_some (given (codes "href") e) then entry Super (site outer e) ∷ other_children (e.declared ++ outer) (sub_elements e.children)
-     else if is_quiet e then []
-     else entry Stray (site outer e) ∷ []) ++ class_children outer es
+    else if is_named (codes "eSuperTypes") e && is_some (given (codes "href") e) then entry Super (site outer e) ∷ other_children (e.declared ++ outer) (sub_elements e.children)
+    else if is_quiet e then []
+    else entry Stray (site outer e) ∷ []) ++ class_children outer es
 
 abbrev pub enum_children : List Prefix → List Element → List Entry
 enum_children outer [] = []
 enum_children outer (e ∷ es) =
     (if is_named (codes "eLiterals") e then entry Literal (site outer e) ∷ other_children (e.declared ++ outer) (sub_elements e.children)
-     else if is_quiet e then []
-     else entry Stray (site outer e) ∷ []) ++ enum_children outer es
+    else if is_quiet e then []
+    else entry Stray (site outer e) ∷ []) ++ enum_children outer es
 
 abbrev pub classifier : Site → List Entry
 classifier s =
@@ -112,9 +112,9 @@ abbrev pub package_children : List Prefix → List Element → List Entry
 package_children outer [] = []
 package_children outer (e ∷ es) =
     (if is_named (codes "eClassifiers") e then classifier (site outer e)
-     else if is_named (codes "eSubpackages") e then entry SubPackage (site outer e) ∷ []
-     else if is_quiet e then []
-     else entry Stray (site outer e) ∷ []) ++ package_children outer es
+    else if is_named (codes "eSubpackages") e then entry SubPackage (site outer e) ∷ []
+    else if is_quiet e then []
+    else entry Stray (site outer e) ∷ []) ++ package_children outer es
 
 abbrev pub package_outline : Site → List Entry
 package_outline s = entry Package s ∷ package_children s.scope (sub_elements s.element.children)

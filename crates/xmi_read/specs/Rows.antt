@@ -137,7 +137,7 @@ text_typed r file scope text = reference_typed file scope text (words_of text)
 abbrev pub typed : List Entry → Entry → List Entry → Typed
 typed file e behind =
     option_map_or (text_typed e.role file e.site.scope) (given (codes "eType") e.site.element)
-      (option_map_or (child_typed e.role file) (type_behind behind) (Untyped []))
+    (option_map_or (child_typed e.role file) (type_behind behind) (Untyped []))
 
 pub record FeatureRow : Type 0 where
   pub entry : Entry
