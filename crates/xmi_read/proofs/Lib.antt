@@ -1,1 +1,3 @@
+pub mod Roles
+pub mod Sound
 pub mod Splits
