@@ -1,3 +1,4 @@
+pub mod Behind
 pub mod Roles
 pub mod Sound
 pub mod Splits
