@@ -2,3 +2,4 @@ pub mod Behind
 pub mod Roles
 pub mod Sound
 pub mod Splits
+pub mod Tables
