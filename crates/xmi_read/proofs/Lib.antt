@@ -3,3 +3,4 @@ pub mod Roles
 pub mod Sound
 pub mod Splits
 pub mod Tables
+pub mod Naming

@@ -35,7 +35,7 @@ skipped_is_no_class SkippedReference h = refl
 skipped_is_no_class r h = absurd (false-true h)
 
 -- a list of other items made of the same elements
-map-rows : {A B : Type 0} (of : Role → Bool) (make : List Entry → Entry → List Entry → A) (f : A → B) (b rest : List Entry) → map f (rows of make b rest) ≡ rows of (λ b e h. f (make b e h)) b rest
+pub map-rows : {A B : Type 0} (of : Role → Bool) (make : List Entry → Entry → List Entry → A) (f : A → B) (b rest : List Entry) → map f (rows of make b rest) ≡ rows of (λ b e h. f (make b e h)) b rest
 map-rows of make f b [] = refl
 map-rows of make f b (e ∷ es) = by (of e.role) (map-rows of make f (b ++ (e ∷ [])) es)
   where

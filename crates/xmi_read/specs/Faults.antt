@@ -255,10 +255,6 @@ module _ (file : List Entry) where
 
   -- ## Names that stand twice
 
-  abbrev pub since_enum : List Entry → List Entry → List Entry
-  since_enum seen [] = seen
-  since_enum seen (e ∷ es) = if ends_class e.role then since_enum [] es else since_enum (if is_literal_role e.role then e ∷ seen else seen) es
-
   abbrev pub is_same_literal : Entry → Entry → Bool
   is_same_literal e other = bytes_eq (name_of other) (name_of e) || bytes_eq (literal_text other) (literal_text e)
 
@@ -279,7 +275,7 @@ module _ (file : List Entry) where
       by Class = or_else (classifier_twice before e) (option_map (λ n. (TwiceName, n)) (twice_seen file (count is_class_role before)))
       by EnumRole = classifier_twice before e
       by Data = classifier_twice before e
-      by Literal = when (list_any (is_same_literal e) (since_enum [] before)) TwiceName (name_of e)
+      by Literal = when (list_any (is_same_literal e) (literals_of before (count is_enum_role before - 1))) TwiceName (name_of e)
       by r = None
 
   abbrev pub cycle_fault : List Entry → Entry → Option Fault
