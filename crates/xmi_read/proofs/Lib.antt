@@ -4,3 +4,4 @@ pub mod Sound
 pub mod Splits
 pub mod Tables
 pub mod Naming
+pub mod Twice
