@@ -5,3 +5,5 @@ pub mod Splits
 pub mod Tables
 pub mod Naming
 pub mod Twice
+pub mod Lists
+pub mod Owners
