@@ -7,3 +7,4 @@ pub mod Naming
 pub mod Twice
 pub mod Lists
 pub mod Owners
+pub mod Targets
