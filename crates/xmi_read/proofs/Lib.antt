@@ -8,3 +8,4 @@ pub mod Twice
 pub mod Lists
 pub mod Owners
 pub mod Targets
+pub mod Paths

@@ -1,6 +1,7 @@
 -- Look-ups in lists: by number, by a test, and in what is made of a list.
 use Rattle.std.proofs.Common.{◌≡◌, ◌≢◌, ℕ, zero, suc, ◌+◌, ◌<◌, ◌≤◌, List, [], ◌∷◌, ◌++◌, length, get_or, map, refl, sym, ap, ◌∙◌, subst, arith}
 use Rattle.std.specs.Prelude.{Bool, true, false, cond, Option, Some, None, option_map, slice_get, find, filter_map, Contains, AllPairs}
+use Rattle.std.specs.List.{cons_option}
 use Rattle.std.specs.Option.{option_map_or}
 use Rattle.std.proofs.lemmas.List.{get_or-map, length-map}
 use Rattle.std.proofs.lemmas.Option.{none-some, same_Some}
@@ -61,3 +62,26 @@ pairs_cons R x xs f h zero zero d l n = absurd (omega (arith, l))
 pairs_cons R x xs f h (suc i) zero d l n = absurd (omega (arith, l))
 pairs_cons R x xs f h zero (suc j) d l n = f j d (omega arith)
 pairs_cons R x xs f h (suc i) (suc j) d l n = h i j d (omega arith) (omega arith)
+
+-- what is kept of a list
+pub in_filter_map : {X Y : Type 0} (h : X → Option Y) (xs : List X) (y : Y) → Contains (filter_map h xs) y → (x : X) × Contains xs x × (h x ≡ Some y)
+in_filter_map h [] y m = absurd (omega (arith, m.1))
+in_filter_map {X = X} {Y = Y} h (x ∷ xs) y m = by (h x) refl m (in_filter_map h xs y)
+  where
+    on : (x : X) × Contains xs x × (h x ≡ Some y) → (z : X) × Contains (x ∷ xs) z × (h z ≡ Some y)
+    on r = (r.0, (suc r.1.0, omega (arith, r.1.1), r.1.2), r.2)
+
+    first : (z : Y) → h x ≡ Some z → (k : ℕ) → k < length (z ∷ filter_map h xs) → get_or (z ∷ filter_map h xs) k y ≡ y → (Contains (filter_map h xs) y → (x : X) × Contains xs x × (h x ≡ Some y)) → (w : X) × Contains (x ∷ xs) w × (h w ≡ Some y)
+    first z e zero l q later = (x, (0, omega arith, refl), e ∙ ap (λ z. Some z) q)
+    first z e (suc k) l q later = on (later (k, omega arith, q))
+
+    by : (o : Option Y) → h x ≡ o → Contains (cons_option o (filter_map h xs)) y → (Contains (filter_map h xs) y → (x : X) × Contains xs x × (h x ≡ Some y)) → (z : X) × Contains (x ∷ xs) z × (h z ≡ Some y)
+    by None e m later = on (later m)
+    by (Some z) e m later = first z e m.0 m.1 m.2 later
+
+pub map-map : {X Y Z : Type 0} (g : Y → Z) (f : X → Y) (xs : List X) → map g (map f xs) ≡ map (λ x. g (f x)) xs
+map-map g f [] = refl
+map-map g f (x ∷ xs) = ap (λ l. g (f x) ∷ l) (map-map g f xs)
+
+pub pairs_rest : {X : Type 0} (R : X → X → Type 0) (x : X) (xs : List X) → AllPairs R (x ∷ xs) → AllPairs R xs
+pairs_rest R x xs h i j d l n = h (suc i) (suc j) d (omega arith) (omega arith)

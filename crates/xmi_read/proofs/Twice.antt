@@ -14,6 +14,7 @@ use Rattle.xmi_read.specs.Types.{is_literal_role, literals_from, literals_of, li
 use Rattle.xmi_read.specs.Rows.{twice_seen}
 use Rattle.xmi_read.specs.Parts.{literal_of}
 use Rattle.xmi_read.specs.Faults.{first_fault, TwiceName, uri_of, prefix_of, is_same_package, is_same_classifier, is_same_literal, classifier_twice}
+use Rattle.xmi_read.proofs.Lists.{map-map}
 use Rattle.xmi_read.proofs.Naming.{differ}
 use Rattle.xmi_read.proofs.Roles.{packages, classes, enums, literals}
 use Rattle.xmi_read.proofs.Sound.{Fine, fine, not_when, else_parts}
@@ -32,10 +33,6 @@ differ_mapped f [] h i j d l n same = absurd (omega (arith, n))
 differ_mapped f (x ∷ xs) h i j d l n same =
     let m : j < length (x ∷ xs) = omega (arith, n, length-map (x ∷ xs) f) in
     h i j x l m (sym (get_or-map f (x ∷ xs) i x d (omega arith)) ∙ same ∙ get_or-map f (x ∷ xs) j x d m)
-
-map-map : {X Y Z : Type 0} (g : Y → Z) (f : X → Y) (xs : List X) → map g (map f xs) ≡ map (λ x. g (f x)) xs
-map-map g f [] = refl
-map-map g f (x ∷ xs) = ap (λ l. g (f x) ∷ l) (map-map g f xs)
 
 -- what differs in a list of items differs in what is made of them
 differ_map : {X Y Z : Type 0} (f : X → Z) (g : Y → Z) (xs : List X) (ys : List Y) → map g ys ≡ map f xs → AllPairs (λ x y. f x ≢ f y) xs → AllDiffer (map g ys)
