@@ -9,3 +9,4 @@ pub mod Lists
 pub mod Owners
 pub mod Targets
 pub mod Paths
+pub mod Supers
