@@ -10,3 +10,4 @@ pub mod Owners
 pub mod Targets
 pub mod Paths
 pub mod Supers
+pub mod DataTypes
