@@ -11,3 +11,4 @@ pub mod Targets
 pub mod Paths
 pub mod Supers
 pub mod DataTypes
+pub mod Defaults
