@@ -12,3 +12,4 @@ pub mod Paths
 pub mod Supers
 pub mod DataTypes
 pub mod Defaults
+pub mod TypesKnown
