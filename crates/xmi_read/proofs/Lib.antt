@@ -13,3 +13,4 @@ pub mod Supers
 pub mod DataTypes
 pub mod Defaults
 pub mod TypesKnown
+pub mod Opposites
