@@ -14,3 +14,5 @@ pub mod DataTypes
 pub mod Defaults
 pub mod TypesKnown
 pub mod Opposites
+pub mod Seen
+pub mod Valid

@@ -105,7 +105,7 @@ module _ (file : List Entry) where
   pub features_are : (tables file).features ≡ map (feature_of file) (feature_rows file)
   features_are = sym (map-rows is_feature_role (feature_row file) (feature_of file) [] file) ∙ ap (map (feature_of file)) (sym (the_features file))
 
-  owner_is : (f : FeatId) → owner_of (tables file).features f ≡ option_map (λ row. class_no row.owner) (slice_get (feature_rows file) f.0)
+  pub owner_is : (f : FeatId) → owner_of (tables file).features f ≡ option_map (λ row. class_no row.owner) (slice_get (feature_rows file) f.0)
   owner_is f =
       ap (λ fs. owner_of fs f) features_are ∙ ap (option_map (λ feature. feature.owner)) (get_of_map (feature_of file) (feature_rows file) f.0)
       ∙ by (slice_get (feature_rows file) f.0)
@@ -114,7 +114,7 @@ module _ (file : List Entry) where
       by (Some row) = refl
       by None = refl
 
-  owner_row : (f : FeatId) (c : ClassId) (o : Option FeatureRow) → slice_get (feature_rows file) f.0 ≡ o → option_map (λ row. class_no row.owner) o ≡ Some c → (row : FeatureRow) × (slice_get (feature_rows file) f.0 ≡ Some row) × (class_no row.owner ≡ c)
+  pub owner_row : (f : FeatId) (c : ClassId) (o : Option FeatureRow) → slice_get (feature_rows file) f.0 ≡ o → option_map (λ row. class_no row.owner) o ≡ Some c → (row : FeatureRow) × (slice_get (feature_rows file) f.0 ≡ Some row) × (class_no row.owner ≡ c)
   owner_row f c (Some row) e h = (row, e, same_Some (class_no row.owner) c h)
   owner_row f c None e h = absurd (none-some c h)
 

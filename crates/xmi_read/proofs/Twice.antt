@@ -28,7 +28,7 @@ fails_at test b d m h = (or_parts (test d) (list_any test m) (or_parts (list_any
 pub passes_none : {X : Type 0} (test : X → Bool) (xs : List X) (k : ℕ) (d : X) → k < length xs → list_any test xs ≡ false → test (get_or xs k d) ≡ false
 passes_none test xs k d l h = false_from_ne_true (test (get_or xs k d)) (λ t. true-false (sym (list_any_at test xs k d l t) ∙ h))
 
-differ_mapped : {X Z : Type 0} (f : X → Z) (xs : List X) → AllPairs (λ x y. f x ≢ f y) xs → AllDiffer (map f xs)
+pub differ_mapped : {X Z : Type 0} (f : X → Z) (xs : List X) → AllPairs (λ x y. f x ≢ f y) xs → AllDiffer (map f xs)
 differ_mapped f [] h i j d l n same = absurd (omega (arith, n))
 differ_mapped f (x ∷ xs) h i j d l n same =
     let m : j < length (x ∷ xs) = omega (arith, n, length-map (x ∷ xs) f) in
@@ -39,7 +39,7 @@ differ_map : {X Y Z : Type 0} (f : X → Z) (g : Y → Z) (xs : List X) (ys : Li
 differ_map f g xs ys e h = subst AllDiffer (sym e) (differ_mapped f xs h)
 
 -- two lists of which no item of the one is in the other
-differ_append : {X : Type 0} (xs ys : List X) → AllDiffer xs → AllDiffer ys → ((i j : ℕ) (d : X) → i < length xs → j < length ys → get_or xs i d ≢ get_or ys j d) → AllDiffer (xs ++ ys)
+pub differ_append : {X : Type 0} (xs ys : List X) → AllDiffer xs → AllDiffer ys → ((i j : ℕ) (d : X) → i < length xs → j < length ys → get_or xs i d ≢ get_or ys j d) → AllDiffer (xs ++ ys)
 differ_append xs ys h k f i j d l n = ⊎_elim
     (λ (low : j < length xs) (same : get_or (xs ++ ys) i d ≡ get_or (xs ++ ys) j d).
     h i j d l low (sym (get_or_append_left xs ys d i (omega arith)) ∙ same ∙ get_or_append_left xs ys d j low))
