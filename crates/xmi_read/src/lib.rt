@@ -1,2 +1,4 @@
 //! Metamodels from documents.
 #![tactic(auto)]
+
+pub mod laws;
