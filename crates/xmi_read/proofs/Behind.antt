@@ -1,10 +1,10 @@
 -- What stands in front of what in an outline: packages in front of classes, and classes in front of features.
-use Rattle.std.proofs.Common.{◌≡◌, ℕ, suc, ◌<◌, List, [], ◌∷◌, ◌++◌, refl, sym, subst, ◌∙◌, ◌⊎◌, inl, inr, arith}
-use Rattle.std.specs.Prelude.{Bool, true, false, ◌||◌, ◌&&◌, not, if◌then◌else◌, codes, is_some}
+use Rattle.std.proofs.Common.{◌≡◌, suc, ◌<◌, List, [], ◌∷◌, ◌++◌, refl, sym, subst, ◌∙◌, ◌⊎◌, inl, inr, arith}
+use Rattle.std.specs.Prelude.{Bool, true, false, ◌||◌, if◌then◌else◌, codes}
 use Rattle.doc_text.specs.declared.tree.Doc.{Doc}
 use Rattle.doc_text.specs.declared.tree.Element.{Element}
 use Rattle.doc_text.specs.declared.tree.Prefix.{Prefix}
-use Rattle.xmi_read.specs.Markup.{Site, site, given, is_typed, sub_elements}
+use Rattle.xmi_read.specs.Markup.{Site, site, is_typed, sub_elements}
 use Rattle.xmi_read.specs.Outline.{Entry, Role, entry, Around, Package, Class, Enum, Data, Literal, SubPackage, Stray, is_named, is_quiet, other_children, class_children, enum_children, classifier, package_children, package_outline, is_package, is_around, around_children, outline, is_package_role, is_class_role, is_feature_role, is_skipped_role, count}
 use Rattle.xmi_read.proofs.Splits.{false-true}
 

@@ -1,9 +1,8 @@
 -- The types of features are in the lists, and each default of a type is a text of it.
-use Rattle.std.proofs.Common.{◌≡◌, ◌≢◌, ℕ, zero, suc, ◌+◌, ◌<◌, ◌≤◌, List, [], ◌∷◌, ◌++◌, length, get_or, map, refl, sym, ap, ◌∙◌, subst, inl, inr, ⊎_elim, arith}
-use Rattle.std.specs.Prelude.{Bool, true, false, not, cond, ◌&&◌, ◌||◌, ◌==◌, nat_lt, nat_le, bytes_eq, codes, Option, Some, None, IfSome, find, slice_get, Contains, if◌then◌else◌}
+use Rattle.std.proofs.Common.{◌≡◌, ℕ, ◌<◌, ◌≤◌, List, [], ◌∷◌, length, get_or, map, refl, sym, ap, ◌∙◌, subst, inl, inr, ⊎_elim, arith}
+use Rattle.std.specs.Prelude.{Bool, true, false, cond, ◌&&◌, ◌==◌, nat_lt, nat_le, bytes_eq, codes, Option, Some, None, IfSome, find, slice_get, Contains, if◌then◌else◌}
 use Rattle.std.specs.Option.{option_map_or}
-use Rattle.std.specs.List.{list_any}
-use Rattle.std.proofs.lemmas.Bool.{and_parts, or_cases, eqb-true, eqb-false, leb-true, ltb-true}
+use Rattle.std.proofs.lemmas.Bool.{and_parts, or_cases, eqb-true, leb-true, ltb-true}
 use Rattle.std.proofs.lemmas.List.Folds.{Any-from_list_any}
 use Rattle.std.proofs.lemmas.Option.{none-some, same_Some, slice_get_cases}
 use Rattle.std.proofs.lemmas.Slice.Eq.{bytes_eq-Decides}
@@ -14,7 +13,7 @@ use Rattle.ecore_meta.specs.declared.parts.FeatKind.{FeatKind}
 use Rattle.ecore_meta.specs.declared.parts.FeatKind.TheVariants.{Str, Int, Truth, Enum, Opaque, Refer}
 use Rattle.ecore_meta.specs.Valid.{IsDigits, IsIntText, IsTextOf, IsKindWithin, is_reference, number_of}
 use Rattle.xmi_read.specs.Markup.{Site, given, or_empty, words_of, ecore_space}
-use Rattle.xmi_read.specs.Outline.{Entry, Role, Attribute, Reference, entry, is_class_role, is_enum_role, count}
+use Rattle.xmi_read.specs.Outline.{Entry, Attribute, Reference, entry, is_class_role, is_enum_role, count}
 use Rattle.xmi_read.specs.References.{Target, OfClass, OfEnum, OfData, names_file, local_target, class_named}
 use Rattle.xmi_read.specs.Types.{DataType, plain, with_default, typed_by, ecore_types, instance_types, named_types, own_type, foreign_type, file_of, behind_hash, behind_slashes, literal_text, literals_of, first_text, type_of_target, local_type}
 use Rattle.xmi_read.specs.Rows.{Typed, ByData, ByClass, Foreign, Untyped, or_foreign, foreign_word, by_data, by_class, is_foreign_data, attribute_typed, reference_typed, attribute_child_typed, reference_child_typed, text_typed, child_typed, type_behind, typed}

@@ -1,5 +1,5 @@
 -- The kinds of the features of a file without faults: their numbers are places in the lists, and defaults are texts of them.
-use Rattle.std.proofs.Common.{◌≡◌, ℕ, ◌+◌, ◌<◌, List, [], ◌∷◌, ◌++◌, length, refl, sym, ap, ◌∙◌, subst, arith}
+use Rattle.std.proofs.Common.{◌≡◌, ℕ, ◌<◌, List, [], length, refl, sym, ap, subst, arith}
 use Rattle.std.specs.Prelude.{Bool, true, false, not, ◌&&◌, bytes_eq, codes, Option, Some, None, option_map, IfSome, All, find, if◌then◌else◌}
 use Rattle.std.specs.Option.{option_map_or}
 use Rattle.std.proofs.lemmas.Bool.{and_parts, not-false}
@@ -13,9 +13,9 @@ use Rattle.xmi_read.specs.Outline.{Entry, Attribute as AttributeRole, Reference 
 use Rattle.xmi_read.specs.References.{Own, Kept, Skips, feature_named}
 use Rattle.xmi_read.specs.Types.{DataType}
 use Rattle.xmi_read.specs.Rows.{Typed, ByData, ByClass, Foreign, Untyped, typed}
-use Rattle.xmi_read.specs.Parts.{feature_no, kept, opposite_of, kind_of, default_of}
+use Rattle.xmi_read.specs.Parts.{kept, opposite_of, kind_of, default_of}
 use Rattle.xmi_read.specs.Faults.{Fault, first_fault, BadNumber, is_upper, is_text_of, is_bad_default, is_bad_number, number_fault}
-use Rattle.xmi_read.proofs.DataTypes.{IsSound, AttributeFits, ReferenceFits, attribute_fits, reference_fits, text_is}
+use Rattle.xmi_read.proofs.DataTypes.{AttributeFits, ReferenceFits, attribute_fits, reference_fits, text_is}
 use Rattle.xmi_read.proofs.Lists.{found_passes, found_fails}
 use Rattle.xmi_read.proofs.Roles.{features}
 use Rattle.xmi_read.proofs.Sound.{Fine, fine, some-none}

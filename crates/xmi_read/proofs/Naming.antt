@@ -1,5 +1,5 @@
 -- What is named in a file without faults has a name of the form, and packages have prefixes and namespaces that may be chosen.
-use Rattle.std.proofs.Common.{◌≡◌, ◌≢◌, ℕ, suc, List, [], ◌∷◌, ◌++◌, map, refl, sym, ap, ◌∙◌, subst, arith}
+use Rattle.std.proofs.Common.{◌≡◌, ◌≢◌, ℕ, suc, List, [], ◌∷◌, ◌++◌, refl, sym, ap, ◌∙◌}
 use Rattle.std.specs.Prelude.{Bool, true, false, not, ◌&&◌, ◌||◌, ◌==◌, bytes_eq, codes, Option, Some, None, All, if◌then◌else◌}
 use Rattle.std.specs.List.{list_any}
 use Rattle.std.proofs.lemmas.Bool.{or_parts, and_parts, not-true, not-false}
@@ -7,14 +7,14 @@ use Rattle.std.proofs.lemmas.List.Elements.{All-nil, All-cons, All-map}
 use Rattle.std.proofs.lemmas.Slice.Eq.{bytes_eq-Decides}
 use Rattle.ecore_meta.specs.Names.{is_plain_name, IsName, IsPrefix, IsUri, HasNoDot}
 use Rattle.ecore_meta.specs.Valid.{AreNames}
-use Rattle.xmi_read.specs.Markup.{Site, given, has_text, is_bad_flag}
-use Rattle.xmi_read.specs.Outline.{Entry, Role, Package, Class, Enum, Literal, Attribute, Reference, entry, is_package_role, is_class_role, is_enum_role, is_feature_role, name_of}
-use Rattle.xmi_read.specs.Types.{is_literal_role, literals_from, literals_of}
+use Rattle.xmi_read.specs.Markup.{given, has_text, is_bad_flag}
+use Rattle.xmi_read.specs.Outline.{Entry, Package, Class, Enum, Literal, Attribute, Reference, entry, is_package_role, is_class_role, is_enum_role, is_feature_role, name_of}
+use Rattle.xmi_read.specs.Types.{is_literal_role, literals_from}
 use Rattle.xmi_read.specs.Parts.{literal_of}
 use Rattle.xmi_read.specs.Faults.{first_fault, is_name, is_bad_name, has_point, is_prefix, is_bad_prefix, is_kept_uri, or_name, uri_of, prefix_of, is_misnamed, is_stray, flags_of}
 use Rattle.xmi_read.proofs.Roles.{packages, classes, enums, literals, features}
 use Rattle.xmi_read.proofs.Sound.{Fine, fine}
-use Rattle.xmi_read.proofs.Splits.{true-false, false-true, all_rows}
+use Rattle.xmi_read.proofs.Splits.{true-false, all_rows}
 use Rattle.xmi_read.proofs.Tables.{tables, package_made, class_made, feature_made, enum_made}
 
 pub differ : (xs ys : List ℕ) → bytes_eq xs ys ≡ false → xs ≢ ys

@@ -1,6 +1,6 @@
 -- Opposites in a file without faults name each other, fit each other's classes, and do not both contain.
-use Rattle.std.proofs.Common.{◌≡◌, ℕ, ◌+◌, ◌<◌, List, [], ◌∷◌, ◌++◌, refl, sym, ap, ◌∙◌, subst, arith}
-use Rattle.std.specs.Prelude.{Bool, true, false, not, ◌&&◌, ◌==◌, codes, Option, Some, None, slice_get, if◌then◌else◌}
+use Rattle.std.proofs.Common.{◌≡◌, ℕ, List, [], ◌∷◌, ◌++◌, refl, sym, ap, ◌∙◌, subst, arith}
+use Rattle.std.specs.Prelude.{true, false, not, ◌&&◌, ◌==◌, codes, Option, Some, None, slice_get}
 use Rattle.std.specs.Option.{option_map_or}
 use Rattle.std.proofs.lemmas.Bool.{and_parts, eqb-true, not-true, not-false}
 use Rattle.std.proofs.lemmas.Option.{none-some, same_Some}
@@ -14,11 +14,11 @@ use Rattle.xmi_read.specs.Outline.{Entry, Attribute, Reference, entry, is_featur
 use Rattle.xmi_read.specs.References.{Own, Kept, Skips, feature_named}
 use Rattle.xmi_read.specs.Rows.{FeatureRow, Typed, ByData, ByClass, Foreign, Untyped, typed, feature_rows}
 use Rattle.xmi_read.specs.Parts.{class_no, feature_no, kept, kind_of, feature_of, opposite_of as opposite_in}
-use Rattle.xmi_read.specs.Faults.{first_fault, BadOpposite, when, typed_fault, is_reference_role, is_contained, is_this, fit_both, fit, is_opposite, is_bad_end, is_bad_opposite, opposite_fault}
+use Rattle.xmi_read.specs.Faults.{first_fault, BadOpposite, when, typed_fault, is_reference_role, is_contained, is_this, fit_both, fit, is_opposite, is_bad_end, is_bad_opposite}
 use Rattle.xmi_read.proofs.DataTypes.{AttributeFits, ReferenceFits, attribute_fits, reference_fits}
 use Rattle.xmi_read.proofs.Roles.{features, references}
-use Rattle.xmi_read.proofs.Sound.{Fine, fine, not_when, some-none}
-use Rattle.xmi_read.proofs.Splits.{true-false, false-true, rows, RowAt, row_at, row_here}
+use Rattle.xmi_read.proofs.Sound.{fine, not_when, some-none}
+use Rattle.xmi_read.proofs.Splits.{true-false, false-true, rows, row_at, row_here}
 use Rattle.xmi_read.proofs.Tables.{tables, feature_row, feature_made, the_features}
 use Rattle.xmi_read.proofs.Targets.{KeptAt, feature_named_at}
 use Rattle.xmi_read.proofs.TypesKnown.{type_known}

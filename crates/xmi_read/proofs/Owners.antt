@@ -1,11 +1,11 @@
 -- Each feature of an outline is among those of its owner, once, and among no others'.
 use Rattle.std.proofs.Common.{◌≡◌, ◌≢◌, ◌↔◌, ℕ, zero, suc, ◌+◌, ◌-◌, ◌<◌, ◌≤◌, List, [], ◌∷◌, ◌++◌, length, get_or, map, refl, sym, ap, ◌∙◌, subst, ⊎_elim, arith}
-use Rattle.std.specs.Prelude.{Bool, true, false, ◌==◌, ◌||◌, Option, Some, None, option_map, slice_get, Contains, All, AllPairs, if◌then◌else◌}
+use Rattle.std.specs.Prelude.{Bool, true, false, ◌==◌, Option, Some, None, option_map, slice_get, Contains, All, if◌then◌else◌}
 use Rattle.std.specs.Option.{option_map_or}
 use Rattle.std.proofs.lemmas.Bool.{eqb-true, eq-eqb, cases_lt, or_left, or_right}
 use Rattle.std.proofs.lemmas.List.{length-map}
 use Rattle.std.proofs.lemmas.List.Elements.{All-nil, All-cons, All-weaker}
-use Rattle.std.proofs.lemmas.Option.{none-some, same_Some, slice_get-get_or, slice_get_within, slice_get_past, slice_get_cases}
+use Rattle.std.proofs.lemmas.Option.{none-some, same_Some, slice_get_within, slice_get_past, slice_get_cases}
 use Rattle.atl_base.specs.declared.numbers.ClassId.{ClassId}
 use Rattle.atl_base.specs.declared.numbers.FeatId.{FeatId}
 use Rattle.ecore_meta.specs.declared.parts.Class.{Class}
@@ -16,7 +16,7 @@ use Rattle.xmi_read.specs.Rows.{FeatureRow, feature_rows}
 use Rattle.xmi_read.specs.Parts.{class_no, feature_no, feature_of, own_of as own_from}
 use Rattle.xmi_read.proofs.Behind.{Behind, is_member_role, some_before}
 use Rattle.xmi_read.proofs.Lists.{get_of_map, pairs_cons}
-use Rattle.xmi_read.proofs.Splits.{true-false, false-true, rows, RowAt, row_at, get_row, all_rows, length-rows, count-here, count-append}
+use Rattle.xmi_read.proofs.Splits.{row_at, all_rows, length-rows, count-append}
 use Rattle.xmi_read.proofs.Tables.{tables, package_made, class_made, feature_row, feature_made, skipped_made, the_features, map-rows}
 
 -- the number before the next one, where there is one

@@ -1,11 +1,11 @@
 -- Elements by their roles.
-use Rattle.std.proofs.Common.{◌≡◌, refl}
-use Rattle.std.specs.Prelude.{Bool, true, false}
+use Rattle.std.proofs.Common.{◌≡◌}
+use Rattle.std.specs.Prelude.{true}
 use Rattle.xmi_read.specs.Markup.{Site}
-use Rattle.xmi_read.specs.Outline.{Entry, Role, Package, Class, Enum, Data, Literal, Attribute, Reference, SkippedAttribute, SkippedReference, Super, TypeOf, entry, is_package_role, is_class_role, is_enum_role, is_classifier_role, is_feature_role, is_skipped_role}
+use Rattle.xmi_read.specs.Outline.{Entry, Role, Package, Class, Enum, Literal, Attribute, Reference, TypeOf, entry, is_package_role, is_class_role, is_enum_role, is_feature_role}
 use Rattle.xmi_read.specs.Types.{is_literal_role}
-use Rattle.xmi_read.specs.Rows.{is_super_role, is_type_role}
-use Rattle.xmi_read.specs.Faults.{is_reference_role, is_attribute_role}
+use Rattle.xmi_read.specs.Rows.{is_type_role}
+use Rattle.xmi_read.specs.Faults.{is_reference_role}
 use Rattle.xmi_read.proofs.Splits.{false-true}
 
 module _ (P : Entry → Type 0) where

@@ -1,21 +1,20 @@
 -- The features that are seen in one class of a file without faults differ in name.
-use Rattle.std.proofs.Common.{◌≡◌, ◌≢◌, ℕ, zero, suc, ◌+◌, ◌<◌, ◌≤◌, ◌⊎◌, List, [], ◌∷◌, ◌++◌, length, get_or, map, refl, sym, ap, ◌∙◌, subst, inl, inr, ⊎_elim, arith}
-use Rattle.std.specs.Prelude.{Bool, true, false, not, cond, ◌&&◌, ◌==◌, bytes_eq, Option, Some, None, option_map, slice_get, filter, flat_map, Contains, All, AllPairs, if◌then◌else◌}
+use Rattle.std.proofs.Common.{◌≡◌, ◌≢◌, ℕ, zero, suc, ◌<◌, ◌≤◌, ◌⊎◌, List, [], ◌∷◌, length, get_or, map, refl, sym, ap, ◌∙◌, subst, ⊎_elim, arith}
+use Rattle.std.specs.Prelude.{Bool, true, false, not, cond, ◌&&◌, ◌==◌, bytes_eq, Option, Some, None, option_map, slice_get, filter, flat_map, Contains, All, if◌then◌else◌}
 use Rattle.std.specs.Option.{option_map_or}
 use Rattle.std.specs.List.{list_any}
 use Rattle.std.proofs.lemmas.Bool.{or_parts, and_from, not-true, eqb-false, cases_order}
-use Rattle.std.proofs.lemmas.List.Elements.{All-filter, filter_passes, Contains-get_or, Contains-append_left}
+use Rattle.std.proofs.lemmas.List.Elements.{All-filter, filter_passes, Contains-get_or}
 use Rattle.std.proofs.lemmas.Option.{none-some, same_Some, slice_get_cases}
 use Rattle.atl_base.specs.declared.numbers.ClassId.{ClassId}
 use Rattle.atl_base.specs.declared.numbers.FeatId.{FeatId}
-use Rattle.ecore_meta.specs.Inheritance.{supers_of, own_of, Conforms, IsAcyclic, distinct, features, name_of}
-use Rattle.ecore_meta.specs.Valid.{AllDiffer, owner_of}
+use Rattle.ecore_meta.specs.Inheritance.{supers_of, own_of, Conforms, distinct, features, name_of}
+use Rattle.ecore_meta.specs.Valid.{AllDiffer}
 use Rattle.ecore_meta.proofs.FeatureLaws.{features-is, seen-is}
 use Rattle.ecore_meta.proofs.Membership.{Contains-from_flat_map, Contains-from_distinct}
-use Rattle.xmi_read.specs.Markup.{Site}
-use Rattle.xmi_read.specs.Outline.{Entry, Class, Attribute, Reference, entry, is_class_role, is_feature_role, count, name_of as name_in}
+use Rattle.xmi_read.specs.Outline.{Entry, Class, entry, is_class_role, is_feature_role, count, name_of as name_in}
 use Rattle.xmi_read.specs.Rows.{ClassRow, FeatureRow, feature_rows, super_numbers, conforms, is_unnamed, twice_from, twice_seen}
-use Rattle.xmi_read.specs.Parts.{class_no, feature_of}
+use Rattle.xmi_read.specs.Parts.{feature_of}
 use Rattle.xmi_read.specs.Faults.{Fault, first_fault, TwiceName, classifier_twice}
 use Rattle.xmi_read.proofs.Behind.{Behind, is_member_role}
 use Rattle.xmi_read.proofs.Lists.{get_of_map, pairs_cons, pairs_rest}
@@ -23,7 +22,7 @@ use Rattle.xmi_read.proofs.Naming.{differ}
 use Rattle.xmi_read.proofs.Owners.{own_differ, features_are, owner_row, owner_is, owners}
 use Rattle.xmi_read.proofs.Roles.{classes, features as of_feature}
 use Rattle.xmi_read.proofs.Sound.{Fine, fine, else_parts, some-none}
-use Rattle.xmi_read.proofs.Splits.{true-false, false-true, rows, RowAt, row_at, length-rows}
+use Rattle.xmi_read.proofs.Splits.{rows, row_at, length-rows}
 use Rattle.xmi_read.proofs.Supers.{supers_within, conforms_to, acyclic}
 use Rattle.xmi_read.proofs.Tables.{tables, class_row, class_made, feature_row, the_features}
 use Rattle.xmi_read.proofs.Twice.{differ_append, differ_mapped}

@@ -1,15 +1,13 @@
 -- What holds at each element of a file in which nothing is wrong.
-use Rattle.std.proofs.Common.{◌≡◌, ◌≢◌, List, [], ◌∷◌, ◌++◌, refl, sym, ap, ◌∙◌, subst, append_assoc, ◌⊎◌, inl, inr}
-use Rattle.std.specs.Prelude.{ℕ, Bool, true, false, not, ◌&&◌, ◌||◌, bytes_eq, Option, Some, None}
+use Rattle.std.proofs.Common.{◌≡◌, List, [], ◌∷◌, ◌++◌, refl, sym, ap, ◌∙◌, subst, append_assoc}
+use Rattle.std.specs.Prelude.{ℕ, Bool, true, false, ◌&&◌, bytes_eq, Option, Some, None}
 use Rattle.std.specs.Option.{option_map_or}
-use Rattle.std.proofs.lemmas.Bool.{or_parts}
 use Rattle.std.proofs.lemmas.List.{append-nil}
 use Rattle.std.proofs.lemmas.Option.{none-some}
 use Rattle.atl_base.specs.declared.place.Place.{Place}
 use Rattle.xmi_read.specs.Outline.{Entry, is_class_role, count, name_of}
 use Rattle.xmi_read.specs.Rows.{typed, is_own_super, super_numbers}
-use Rattle.xmi_read.specs.Faults.{Kind, Fault, when, or_else, is_not_ecore, is_sub_role, is_named_role, generic_in, twice_fault, type_fault, cycle_fault, opposite_fault, number_fault, fault_at, fault_from, first_fault, NotEcore, NoName, SuperCycle, IsSubPackage}
-use Rattle.xmi_read.proofs.Splits.{same_first, same_rest}
+use Rattle.xmi_read.specs.Faults.{Kind, Fault, when, or_else, is_not_ecore, is_named_role, twice_fault, type_fault, opposite_fault, number_fault, fault_at, fault_from, first_fault, NotEcore, NoName, SuperCycle}
 
 pub some-none : {A : Type 0} {x : A} → Some x ≡ None → ⊥
 some-none {x = x} h = none-some x (sym h)

@@ -1,8 +1,7 @@
 -- Supertypes of a file without faults are classes, and no class inherits from itself.
-use Rattle.std.proofs.Common.{◌≡◌, ℕ, ◌<◌, ◌≤◌, List, [], ◌∷◌, ◌++◌, length, get_or, map, refl, sym, ap, ◌∙◌, subst, ⊎_elim, arith}
-use Rattle.std.specs.Prelude.{Bool, true, false, ◌&&◌, Option, Some, None, filter_map, slice_get, Contains, All}
-use Rattle.std.specs.Option.{option_map_or}
-use Rattle.std.proofs.lemmas.Bool.{cases_lt, and_from}
+use Rattle.std.proofs.Common.{◌≡◌, ℕ, ◌<◌, ◌≤◌, List, [], length, get_or, map, sym, ap, ◌∙◌, subst, ⊎_elim, arith}
+use Rattle.std.specs.Prelude.{Bool, true, false, ◌&&◌, Some, None, filter_map, slice_get, Contains}
+use Rattle.std.proofs.lemmas.Bool.{cases_lt}
 use Rattle.std.proofs.lemmas.List.{get_or_past, length-map}
 use Rattle.std.proofs.lemmas.List.Elements.{All-map, All-get_or}
 use Rattle.std.proofs.lemmas.Option.{slice_get_cases}
@@ -13,9 +12,9 @@ use Rattle.xmi_read.specs.References.{class_named}
 use Rattle.xmi_read.specs.Rows.{ClassRow, class_rows, super_numbers, conforms, is_own_super}
 use Rattle.xmi_read.specs.Parts.{class_no}
 use Rattle.xmi_read.specs.Faults.{first_fault}
-use Rattle.xmi_read.proofs.Lists.{get_mapped, get_or_map, map-map, in_map, to_map, in_filter_map}
+use Rattle.xmi_read.proofs.Lists.{get_mapped, get_or_map, map-map, in_map, in_filter_map}
 use Rattle.xmi_read.proofs.Paths.{Simple, one, further, passes, conforms_from}
-use Rattle.xmi_read.proofs.Sound.{Fine, fine}
+use Rattle.xmi_read.proofs.Sound.{fine}
 use Rattle.xmi_read.proofs.Splits.{true-false, rows, RowAt, row_at, length-rows}
 use Rattle.xmi_read.proofs.Tables.{tables, class_row, class_made, map-rows, the_classes}
 use Rattle.xmi_read.proofs.Targets.{class_named_within}

@@ -1,6 +1,6 @@
 -- The five lists of a metamodel, each with an item for each element of its sort.
-use Rattle.std.proofs.Common.{◌≡◌, ℕ, suc, ◌+◌, ◌-◌, List, [], ◌∷◌, ◌++◌, map, refl, sym, ap, ◌∙◌}
-use Rattle.std.specs.Prelude.{Bool, true, false, ◌&&◌, ◌||◌, cond, filter, if◌then◌else◌}
+use Rattle.std.proofs.Common.{◌≡◌, suc, ◌-◌, List, [], ◌∷◌, ◌++◌, map, refl, sym, ap, ◌∙◌}
+use Rattle.std.specs.Prelude.{Bool, true, false, cond, filter, if◌then◌else◌}
 use Rattle.ecore_meta.specs.declared.parts.Class.{Class}
 use Rattle.ecore_meta.specs.declared.parts.EnumDef.{EnumDef}
 use Rattle.ecore_meta.specs.declared.parts.Package.{Package}

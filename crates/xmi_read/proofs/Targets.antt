@@ -1,10 +1,9 @@
 -- What a reference names is in the lists: classes, enumerations and features by their numbers.
-use Rattle.std.proofs.Common.{◌≡◌, ℕ, zero, suc, ◌+◌, ◌-◌, ◌<◌, List, [], ◌∷◌, ◌++◌, refl, sym, ap, ◌∙◌, subst, arith}
+use Rattle.std.proofs.Common.{◌≡◌, ℕ, suc, ◌+◌, ◌<◌, List, [], ◌∷◌, ◌++◌, refl, ap, ◌∙◌, subst, arith}
 use Rattle.std.specs.Prelude.{Bool, true, false, ◌==◌, ◌&&◌, bytes_eq, Option, Some, None, if◌then◌else◌}
 use Rattle.std.proofs.lemmas.Bool.{and_parts}
 use Rattle.std.proofs.lemmas.Option.{none-some, same_Some}
-use Rattle.doc_text.specs.declared.tree.Element.{Element}
-use Rattle.xmi_read.specs.Outline.{Entry, Role, is_class_role, is_enum_role, is_feature_role, is_skipped_role, count, name_of}
+use Rattle.xmi_read.specs.Outline.{Entry, is_class_role, is_enum_role, is_feature_role, is_skipped_role, count, name_of}
 use Rattle.xmi_read.proofs.Splits.{false-true}
 use Rattle.xmi_read.specs.References.{Path, Target, OfClass, OfEnum, OfData, Stand, first_stand, past, target_here, is_named_by, target_from, target, then_, local_target, path_of, parts_of, fragment, class_of, class_named, Own, Kept, Skips, own_from, own_named, feature_path_of, feature_named, names_file}
 

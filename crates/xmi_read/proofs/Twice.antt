@@ -1,24 +1,22 @@
 -- No two packages of a file without faults have one namespace or prefix, no two classifiers one name, and no two literals of
 -- one enumeration one name or text.
 use Rattle.std.proofs.Common.{◌≡◌, ◌≢◌, ℕ, suc, ◌+◌, ◌-◌, ◌<◌, ◌≤◌, List, [], ◌∷◌, ◌++◌, length, get_or, map, refl, sym, ap, ◌∙◌, subst, append_assoc, ⊎_elim, arith}
-use Rattle.std.specs.Prelude.{Bool, true, false, ◌&&◌, ◌||◌, ◌==◌, bytes_eq, Option, Some, None, option_map, All, AllPairs, if◌then◌else◌}
+use Rattle.std.specs.Prelude.{Bool, true, false, ◌&&◌, ◌||◌, ◌==◌, bytes_eq, None, All, AllPairs, if◌then◌else◌}
 use Rattle.std.specs.List.{list_any}
-use Rattle.std.proofs.lemmas.Bool.{or_parts, eqb-true, false_from_ne_true, cases_lt, and_cases, and_parts}
+use Rattle.std.proofs.lemmas.Bool.{or_parts, eqb-true, false_from_ne_true, cases_lt}
 use Rattle.std.proofs.lemmas.List.{append-nil, length-append, get_or_append_left, get_or-append_right, get_or-map, length-map}
 use Rattle.std.proofs.lemmas.List.Folds.{list_any-append, list_any_at}
 use Rattle.std.proofs.lemmas.List.Quantifiers.{all_pairs_push}
 use Rattle.ecore_meta.specs.Valid.{AllDiffer}
-use Rattle.xmi_read.specs.Markup.{Site}
 use Rattle.xmi_read.specs.Outline.{Entry, Role, Package, Class, Enum, Literal, entry, is_package_role, is_class_role, is_enum_role, is_classifier_role, count, name_of}
 use Rattle.xmi_read.specs.Types.{is_literal_role, literals_from, literals_of, literal_text}
-use Rattle.xmi_read.specs.Rows.{twice_seen}
 use Rattle.xmi_read.specs.Parts.{literal_of}
 use Rattle.xmi_read.specs.Faults.{first_fault, TwiceName, uri_of, prefix_of, is_same_package, is_same_classifier, is_same_literal, classifier_twice}
 use Rattle.xmi_read.proofs.Lists.{map-map}
 use Rattle.xmi_read.proofs.Naming.{differ}
 use Rattle.xmi_read.proofs.Roles.{packages, classes, enums, literals}
 use Rattle.xmi_read.proofs.Sound.{Fine, fine, not_when, else_parts}
-use Rattle.xmi_read.proofs.Splits.{true-false, false-true, rows, RowAt, get_row, all_rows, pairs_of_rows, Meet, Same, Later, Earlier, meet, count-push, count-push_other}
+use Rattle.xmi_read.proofs.Splits.{true-false, false-true, rows, RowAt, get_row, all_rows, pairs_of_rows, Meet, Same, Later, Earlier, meet}
 use Rattle.xmi_read.proofs.Tables.{tables, package_made, class_made, enum_made, map-rows}
 
 -- a test that fails at all of a list fails at each

@@ -1,5 +1,5 @@
 -- A file without faults is a metamodel.
-use Rattle.std.proofs.Common.{◌≡◌, subst, ap, sym, ◌∙◌, List}
+use Rattle.std.proofs.Common.{◌≡◌, subst, List}
 use Rattle.std.specs.Prelude.{None, false}
 use Rattle.doc_text.specs.declared.tree.Doc.{Doc}
 use Rattle.ecore_meta.specs.Valid.{ArePlaces, IsMetamodel}

@@ -1,5 +1,5 @@
 -- What is wrong at an element, of each kind at most one thing; and the first thing that is wrong in a file.
-use Rattle.std.specs.Prelude.{ℕ, suc, ◌-◌, ◌==◌, ◌&&◌, ◌||◌, not, Bool, true, false, List, [], ◌∷◌, ◌++◌, map, find, codes, bytes_eq, nat_lt, nat_le, Option, Some, None, option_map, is_some, is_none, slice_get, if◌then◌else◌}
+use Rattle.std.specs.Prelude.{ℕ, ◌-◌, ◌==◌, ◌&&◌, ◌||◌, not, Bool, true, false, List, [], ◌∷◌, ◌++◌, find, codes, bytes_eq, nat_lt, nat_le, Option, Some, None, option_map, is_some, is_none, slice_get, if◌then◌else◌}
 use Rattle.std.specs.Option.{option_map_or}
 use Rattle.std.specs.List.{list_any, list_all}
 use Rattle.std.specs.Int.{is_in_range}
@@ -8,13 +8,13 @@ use Rattle.doc_text.specs.declared.tree.Attribute.{Attribute}
 use Rattle.doc_text.specs.declared.tree.Element.{Element}
 use Rattle.ecore_meta.specs.Names.{is_plain_name}
 use Rattle.ecore_meta.specs.declared.parts.FeatKind.{FeatKind}
-use Rattle.ecore_meta.specs.declared.parts.FeatKind.TheVariants.{Str, Int, Truth, Enum, Opaque, Refer}
+use Rattle.ecore_meta.specs.declared.parts.FeatKind.TheVariants.{Int, Truth, Enum}
 use Rattle.ecore_meta.specs.Valid.{number_of}
-use Rattle.xmi_read.specs.Markup.{given, or_empty, flag, is_bad_flag, has_text, sub_elements}
-use Rattle.xmi_read.specs.Outline.{Entry, Role, Around, Package, Class, Enum as EnumRole, Data, Literal, Attribute as AttributeRole, Reference, SkippedAttribute, SkippedReference, Super, TypeOf, SkippedType, SubPackage, Stray, is_generic, is_package_role, is_class_role, is_enum_role, is_classifier_role, is_feature_role, count, name_of}
-use Rattle.xmi_read.specs.References.{names_file, class_named, feature_named, Own, Kept, Skips}
-use Rattle.xmi_read.specs.Types.{DataType, literals_of, literal_text, is_literal_role}
-use Rattle.xmi_read.specs.Rows.{Typed, ByData, ByClass, Foreign, Untyped, typed, href, super_words, child_typed, ends_class, is_own_super, super_numbers, twice_seen, type_behind, feature_rows, FeatureRow, foreign_word}
+use Rattle.xmi_read.specs.Markup.{given, flag, is_bad_flag, has_text, sub_elements}
+use Rattle.xmi_read.specs.Outline.{Entry, Role, Around, Package, Class, Enum as EnumRole, Data, Literal, Attribute as AttributeRole, Reference, SkippedAttribute, SkippedReference, Super, TypeOf, SubPackage, Stray, is_generic, is_package_role, is_class_role, is_enum_role, is_classifier_role, is_feature_role, count, name_of}
+use Rattle.xmi_read.specs.References.{class_named, feature_named, Own, Kept, Skips}
+use Rattle.xmi_read.specs.Types.{literals_of, literal_text}
+use Rattle.xmi_read.specs.Rows.{Typed, ByData, ByClass, Foreign, Untyped, typed, href, super_words, child_typed, is_own_super, super_numbers, twice_seen, type_behind, feature_rows, FeatureRow, foreign_word}
 
 pub data Kind : Type 0 where
   NotEcore : Kind

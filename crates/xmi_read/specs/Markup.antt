@@ -1,9 +1,9 @@
 -- Elements as Ecore writes them: attributes by name, child elements, names behind their prefixes, words between blanks.
 -- (XMI 2.0; Namespaces in XML 1.0; XML Schema, Structures: xsi:type.)
-use Rattle.std.specs.Prelude.{ℕ, ◌==◌, ◌&&◌, ◌||◌, not, Bool, true, false, List, [], ◌∷◌, ◌++◌, map, filter, find, codes, bytes_eq, Option, Some, None, option_map, is_some, if◌then◌else◌}
+use Rattle.std.specs.Prelude.{ℕ, ◌==◌, ◌&&◌, ◌||◌, not, Bool, false, List, [], ◌∷◌, ◌++◌, find, codes, bytes_eq, Option, Some, None, option_map, if◌then◌else◌}
 use Rattle.std.specs.Option.{option_map_or}
 use Rattle.std.specs.List.{list_all, list_any}
-use Rattle.doc_text.specs.Names.{xmi_space, xsi_space}
+use Rattle.doc_text.specs.Names.{xsi_space}
 use Rattle.doc_text.specs.declared.tree.Attribute.{Attribute}
 use Rattle.doc_text.specs.declared.tree.Child.{Child, out-Child}
 use Rattle.doc_text.specs.declared.tree.Child.TheOpen as layer

@@ -1,6 +1,6 @@
 -- The outline of a file: all its elements that a metamodel is made of, in document order, each with the part that it has.
 -- (Ecore: EPackage, EClass, EEnum, EDataType, EAttribute, EReference, EEnumLiteral.)
-use Rattle.std.specs.Prelude.{ℕ, suc, ◌&&◌, ◌||◌, not, Bool, true, false, List, [], ◌∷◌, ◌++◌, flat_map, codes, bytes_eq, Option, Some, None, is_some, is_none, if◌then◌else◌}
+use Rattle.std.specs.Prelude.{ℕ, suc, ◌&&◌, ◌||◌, not, Bool, true, false, List, [], ◌∷◌, ◌++◌, codes, bytes_eq, is_some, if◌then◌else◌}
 use Rattle.doc_text.specs.Names.{xmi_space}
 use Rattle.doc_text.specs.declared.tree.Doc.{Doc}
 use Rattle.doc_text.specs.declared.tree.Element.{Element}

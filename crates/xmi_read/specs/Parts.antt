@@ -1,5 +1,5 @@
 -- The metamodel that a file without faults stands for.
-use Rattle.std.specs.Prelude.{ℕ, suc, ◌-◌, ◌==◌, ◌&&◌, ◌||◌, not, Bool, true, false, List, [], ◌∷◌, ◌++◌, map, filter, filter_map, codes, bytes_eq, Option, Some, None, option_map, if◌then◌else◌}
+use Rattle.std.specs.Prelude.{ℕ, suc, ◌-◌, ◌==◌, ◌&&◌, ◌||◌, Bool, true, false, List, [], ◌∷◌, map, filter, filter_map, codes, bytes_eq, Option, Some, None, if◌then◌else◌}
 use Rattle.std.specs.Option.{option_map_or}
 use Rattle.atl_base.specs.declared.numbers.ClassId.{ClassId}
 use Rattle.atl_base.specs.declared.numbers.FeatId.{FeatId}
@@ -14,9 +14,9 @@ use Rattle.ecore_meta.specs.declared.parts.FeatKind.{FeatKind}
 use Rattle.ecore_meta.specs.declared.parts.FeatKind.TheVariants.{Opaque, Refer}
 use Rattle.xmi_read.specs.Markup.{given, flag}
 use Rattle.xmi_read.specs.Outline.{Entry, is_package_role, is_class_role, is_enum_role, is_skipped_role, name_of}
-use Rattle.xmi_read.specs.References.{class_named, feature_named, Own, Kept, Skips}
+use Rattle.xmi_read.specs.References.{class_named, feature_named, Own, Kept}
 use Rattle.xmi_read.specs.Types.{literals_of, literal_text}
-use Rattle.xmi_read.specs.Rows.{ClassRow, class_rows, FeatureRow, feature_rows, Typed, ByData, ByClass, Foreign, Untyped}
+use Rattle.xmi_read.specs.Rows.{ClassRow, class_rows, FeatureRow, feature_rows, Typed, ByData, ByClass}
 use Rattle.xmi_read.specs.Faults.{uri_of, prefix_of, is_many_upper, is_attribute_role}
 
 abbrev pub class_no : ℕ → ClassId

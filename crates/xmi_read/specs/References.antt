@@ -1,12 +1,11 @@
 -- References within a file: to a class by its package and name, to a feature by its class and name.
 -- (EMF: the fragments `//A`, `/n/A` and `//A/f`, behind `#` or alone.)
-use Rattle.std.specs.Prelude.{ℕ, suc, ◌-◌, ◌==◌, ◌&&◌, ◌||◌, Bool, true, false, List, [], ◌∷◌, ◌++◌, codes, bytes_eq, Option, Some, None, option_map, if◌then◌else◌}
-use Rattle.std.specs.Option.{option_map_or}
+use Rattle.std.specs.Prelude.{ℕ, suc, ◌-◌, ◌==◌, ◌&&◌, ◌||◌, Bool, false, List, [], ◌∷◌, bytes_eq, Option, Some, None, if◌then◌else◌}
 use Rattle.std.specs.List.{list_any, list_all}
 use Rattle.std.specs.Int.{is_in_range}
 use Rattle.doc_text.specs.declared.tree.Element.{Element}
 use Rattle.ecore_meta.specs.Valid.{number_of}
-use Rattle.xmi_read.specs.Outline.{Role, Entry, Package, Class, Enum, Data, is_package_role, is_class_role, is_enum_role, is_classifier_role, is_feature_role, is_skipped_role, name_of}
+use Rattle.xmi_read.specs.Outline.{Entry, is_package_role, is_class_role, is_enum_role, is_classifier_role, is_feature_role, is_skipped_role, name_of}
 
 -- ## Fragments
 

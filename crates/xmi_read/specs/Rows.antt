@@ -1,12 +1,11 @@
 -- The classes and features of a file in their order, each with what belongs to it; and what a class inherits, also where
 -- classes inherit from themselves.
-use Rattle.std.specs.Prelude.{ℕ, zero, suc, ◌-◌, ◌==◌, ◌&&◌, ◌||◌, not, Bool, true, false, List, [], ◌∷◌, ◌++◌, length, map, filter_map, find, codes, bytes_eq, Option, Some, None, option_map, slice_index_or, if◌then◌else◌}
+use Rattle.std.specs.Prelude.{ℕ, zero, suc, ◌-◌, ◌==◌, ◌&&◌, ◌||◌, not, Bool, true, false, List, [], ◌∷◌, ◌++◌, length, map, filter_map, find, codes, bytes_eq, Option, Some, None, slice_index_or, if◌then◌else◌}
 use Rattle.std.specs.Option.{option_map_or}
 use Rattle.std.specs.List.{list_any}
 use Rattle.doc_text.specs.declared.tree.Prefix.{Prefix}
-use Rattle.ecore_meta.specs.declared.parts.FeatKind.TheVariants.{Opaque}
 use Rattle.xmi_read.specs.Markup.{given, or_empty, names, words_of}
-use Rattle.xmi_read.specs.Outline.{Entry, Role, Package, Class, Enum, Data, Super, TypeOf, Attribute, Stray, is_package_role, is_class_role, is_classifier_role, is_feature_role, name_of}
+use Rattle.xmi_read.specs.Outline.{Entry, Role, Super, TypeOf, Attribute, Stray, is_package_role, is_class_role, is_classifier_role, is_feature_role, name_of}
 use Rattle.xmi_read.specs.References.{names_file, class_named}
 use Rattle.xmi_read.specs.Types.{DataType, foreign_type, local_type}
 

@@ -1,13 +1,13 @@
 -- The types of attributes: the data types of Ecore, those of the file, and enumerations; each with the default that it gives.
 -- (Ecore: EDataType, instanceClassName; the data types of the metamodel `ecore`.)
-use Rattle.std.specs.Prelude.{ℕ, suc, ◌==◌, ◌&&◌, ◌||◌, Bool, true, false, List, [], ◌∷◌, ◌++◌, length, codes, bytes_eq, find, Option, Some, None, option_map, slice_get, if◌then◌else◌}
+use Rattle.std.specs.Prelude.{ℕ, suc, ◌==◌, ◌&&◌, Bool, true, false, List, [], ◌∷◌, codes, bytes_eq, find, Option, Some, None, if◌then◌else◌}
 use Rattle.std.specs.Option.{option_map_or}
 use Rattle.doc_text.specs.declared.tree.Element.{Element}
 use Rattle.ecore_meta.specs.declared.parts.FeatKind.{FeatKind}
 use Rattle.ecore_meta.specs.declared.parts.FeatKind.TheVariants.{Str, Int, Truth, Enum, Opaque}
-use Rattle.xmi_read.specs.Markup.{Site, given, or_empty, names, words_of, ecore_space}
+use Rattle.xmi_read.specs.Markup.{given, or_empty, ecore_space}
 use Rattle.xmi_read.specs.Outline.{Entry, Role, Literal, is_enum_role, name_of}
-use Rattle.xmi_read.specs.References.{names_file, fragment, Target, OfClass, OfEnum, OfData, local_target, then_}
+use Rattle.xmi_read.specs.References.{Target, OfClass, OfEnum, OfData, local_target, then_}
 
 -- a kind of attribute, and the default of its type
 pub record DataType : Type 0 where
