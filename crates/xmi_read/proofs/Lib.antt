@@ -16,3 +16,4 @@ pub mod TypesKnown
 pub mod Opposites
 pub mod Seen
 pub mod Valid
+pub mod Samples
