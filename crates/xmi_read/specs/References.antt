@@ -1,0 +1,139 @@
+-- References within a file: to a class by its package and name, to a feature by its class and name.
+-- (EMF: the fragments `//A`, `/n/A` and `//A/f`, behind `#` or alone.)
+use Rattle.std.specs.Prelude.{ℕ, suc, ◌-◌, ◌==◌, ◌&&◌, ◌||◌, Bool, false, List, [], ◌∷◌, bytes_eq, Option, Some, None, if◌then◌else◌}
+use Rattle.std.specs.List.{list_any, list_all}
+use Rattle.std.specs.Int.{is_in_range}
+use Rattle.doc_text.specs.declared.tree.Element.{Element}
+use Rattle.ecore_meta.specs.Valid.{number_of}
+use Rattle.xmi_read.specs.Outline.{Entry, is_package_role, is_class_role, is_enum_role, is_classifier_role, is_feature_role, is_skipped_role, name_of}
+
+-- ## Fragments
+
+abbrev pub has_hash : List ℕ → Bool
+has_hash = list_any (λ c. c == 35)
+
+-- text before a `#`: the name of a file
+abbrev pub names_file : List ℕ → Bool
+names_file [] = false
+names_file (c ∷ cs) = if c == 35 then false else has_hash cs
+
+-- what follows the `#`, where one stands first
+abbrev pub fragment : List ℕ → List ℕ
+fragment [] = []
+fragment (c ∷ cs) = if c == 35 then cs else c ∷ cs
+
+abbrev pub with_first : ℕ → List (List ℕ) → List (List ℕ)
+with_first c [] = (c ∷ []) ∷ []
+with_first c (part ∷ parts) = (c ∷ part) ∷ parts
+
+-- the parts between slashes
+abbrev pub parts_of : List ℕ → List (List ℕ)
+parts_of [] = [] ∷ []
+parts_of (c ∷ cs) = if c == 47 then [] ∷ parts_of cs else with_first c (parts_of cs)
+
+-- a classifier of a package, or of any
+pub record Path : Type 0 where
+  pub holder : List ℕ
+  pub name : List ℕ
+
+abbrev pub path : List ℕ → List ℕ → Path
+path p n = record { holder = p; name = n }
+
+abbrev pub path_of : List (List ℕ) → Option Path
+path_of ([] ∷ p ∷ n ∷ []) = Some (path p n)
+path_of parts = None
+
+-- and a feature of it
+abbrev pub feature_path_of : List (List ℕ) → Option (Path × List ℕ)
+feature_path_of ([] ∷ p ∷ n ∷ f ∷ []) = Some (path p n, f)
+feature_path_of parts = None
+
+-- ## Packages by number or name
+
+-- decimal digits without a leading zero
+abbrev pub is_number : List ℕ → Bool
+is_number [] = false
+is_number (c ∷ []) = is_in_range 48 57 c
+is_number (c ∷ (d ∷ cs)) = is_in_range 49 57 c && list_all (is_in_range 48 57) (d ∷ cs)
+
+-- A package of this number, from 0, and name: the path names it, or any.
+abbrev pub is_holder : Path → ℕ → List ℕ → Bool
+is_holder p number name = bytes_eq p.holder [] || (is_number p.holder && number_of p.holder == number) || bytes_eq p.holder name
+
+-- ## What a path names
+
+-- a class by its number, an enumeration by its number, or a data type of the file's own
+pub data Target : Type 0 where
+  OfClass : ℕ → Target
+  OfEnum : ℕ → Target
+  OfData : Element → Target
+
+-- how many packages, classes and enumerations stand before, and the last package's name
+pub record Stand : Type 0 where
+  pub packages : ℕ
+  pub holder : List ℕ
+  pub classes : ℕ
+  pub enums : ℕ
+
+abbrev pub first_stand : Stand
+first_stand = record { packages = 0; holder = []; classes = 0; enums = 0 }
+
+abbrev pub past : Stand → Entry → Stand
+past s e = record {
+  packages = if is_package_role e.role then suc s.packages else s.packages;
+  holder = if is_package_role e.role then name_of e else s.holder;
+  classes = if is_class_role e.role then suc s.classes else s.classes;
+  enums = if is_enum_role e.role then suc s.enums else s.enums;
+}
+
+abbrev pub target_here : Stand → Entry → Target
+target_here s e = if is_class_role e.role then OfClass s.classes else if is_enum_role e.role then OfEnum s.enums else OfData e.site.element
+
+abbrev pub is_named_by : Path → Stand → Entry → Bool
+is_named_by p s e = is_classifier_role e.role && bytes_eq (name_of e) p.name && is_holder p (s.packages - 1) s.holder
+
+-- the first classifier that a path names
+abbrev pub target_from : Path → Stand → List Entry → Option Target
+target_from p s [] = None
+target_from p s (e ∷ es) = if is_named_by p s e then Some (target_here s e) else target_from p (past s e) es
+
+abbrev pub target : List Entry → Path → Option Target
+target file p = target_from p first_stand file
+
+abbrev pub then_ : {A B : Type 0} → Option A → (A → Option B) → Option B
+then_ (Some a) f = f a
+then_ None f = None
+
+abbrev pub local_target : List Entry → List ℕ → Option Target
+local_target file word = then_ (path_of (parts_of (fragment word))) (target file)
+
+abbrev pub class_of : Target → Option ℕ
+class_of (OfClass c) = Some c
+class_of t = None
+
+-- the class that a word names
+abbrev pub class_named : List Entry → List ℕ → Option ℕ
+class_named file word = then_ (local_target file word) class_of
+
+-- ## Features
+
+pub data Own : Type 0 where
+  -- an attribute or a reference by its number, with its entry
+  Kept : ℕ → Entry → Own
+  -- one that is derived, volatile or transient
+  Skips : Own
+
+-- A class's own feature of this name: the first from here on, where so many classes and features stand before.
+abbrev pub own_from : ℕ → List ℕ → ℕ → ℕ → List Entry → Option Own
+own_from class name c f [] = None
+own_from class name c f (e ∷ es) =
+    if c == suc class && bytes_eq (name_of e) name && is_feature_role e.role then Some (Kept f e)
+    else if c == suc class && bytes_eq (name_of e) name && is_skipped_role e.role then Some Skips
+    else own_from class name (if is_class_role e.role then suc c else c) (if is_feature_role e.role then suc f else f) es
+
+abbrev pub own_named : List Entry → Path × List ℕ → Option Own
+own_named file r = then_ (then_ (target file r.0) class_of) (λ class. own_from class r.1 0 0 file)
+
+-- the feature that a word names
+abbrev pub feature_named : List Entry → List ℕ → Option Own
+feature_named file word = if names_file word then None else then_ (feature_path_of (parts_of (fragment word))) (own_named file)

@@ -1,0 +1,98 @@
+-- The types of attributes: the data types of Ecore, those of the file, and enumerations; each with the default that it gives.
+-- (Ecore: EDataType, instanceClassName; the data types of the metamodel `ecore`.)
+use Rattle.std.specs.Prelude.{ℕ, suc, ◌==◌, ◌&&◌, Bool, true, false, List, [], ◌∷◌, codes, bytes_eq, find, Option, Some, None, if◌then◌else◌}
+use Rattle.std.specs.Option.{option_map_or}
+use Rattle.doc_text.specs.declared.tree.Element.{Element}
+use Rattle.ecore_meta.specs.declared.parts.FeatKind.{FeatKind}
+use Rattle.ecore_meta.specs.declared.parts.FeatKind.TheVariants.{Str, Int, Truth, Enum, Opaque}
+use Rattle.xmi_read.specs.Markup.{given, or_empty, ecore_space}
+use Rattle.xmi_read.specs.Outline.{Entry, Role, Literal, is_enum_role, name_of}
+use Rattle.xmi_read.specs.References.{Target, OfClass, OfEnum, OfData, local_target, then_}
+
+-- a kind of attribute, and the default of its type
+pub record DataType : Type 0 where
+  pub kind : FeatKind
+  pub default : Option (List ℕ)
+
+abbrev pub plain : FeatKind → DataType
+plain k = record { kind = k; default = None }
+
+abbrev pub with_default : FeatKind → List ℕ → DataType
+with_default k text = record { kind = k; default = Some text }
+
+-- the type of the first row that bears the name
+abbrev pub typed_by : List (List ℕ × DataType) → List ℕ → DataType
+typed_by rows name = option_map_or (λ row. row.1) (find (λ row. bytes_eq row.0 name) rows) (plain Opaque)
+
+unfoldable pub ecore_types : List (List ℕ × DataType)
+ecore_types =
+    (codes "EString", plain Str)
+    ∷ (codes "EInt", with_default Int (codes "0")) ∷ (codes "ELong", with_default Int (codes "0")) ∷ (codes "EShort", with_default Int (codes "0")) ∷ (codes "EByte", with_default Int (codes "0"))
+    ∷ (codes "EIntegerObject", plain Int) ∷ (codes "ELongObject", plain Int) ∷ (codes "EShortObject", plain Int) ∷ (codes "EByteObject", plain Int) ∷ (codes "EBigInteger", plain Int)
+    ∷ (codes "EBoolean", with_default Truth (codes "false")) ∷ (codes "EBooleanObject", plain Truth) ∷ []
+
+unfoldable pub instance_types : List (List ℕ × DataType)
+instance_types =
+    (codes "java.lang.String", plain Str)
+    ∷ (codes "int", with_default Int (codes "0")) ∷ (codes "long", with_default Int (codes "0")) ∷ (codes "short", with_default Int (codes "0")) ∷ (codes "byte", with_default Int (codes "0"))
+    ∷ (codes "java.lang.Integer", plain Int) ∷ (codes "java.lang.Long", plain Int) ∷ (codes "java.lang.Short", plain Int) ∷ (codes "java.lang.Byte", plain Int)
+    ∷ (codes "boolean", with_default Truth (codes "false")) ∷ (codes "java.lang.Boolean", plain Truth) ∷ []
+
+-- data types of the file that name no Java class go by their own names
+unfoldable pub named_types : List (List ℕ × DataType)
+named_types = (codes "String", plain Str) ∷ (codes "Integer", plain Int) ∷ (codes "Boolean", plain Truth) ∷ []
+
+abbrev pub own_type : Element → DataType
+own_type e = option_map_or (typed_by instance_types) (given (codes "instanceClassName") e) (typed_by named_types (or_empty (given (codes "name") e)))
+
+-- the file that a reference names, before its first `#`
+abbrev pub file_of : List ℕ → List ℕ
+file_of [] = []
+file_of (c ∷ cs) = if c == 35 then [] else c ∷ file_of cs
+
+abbrev pub behind_hash : List ℕ → List ℕ
+behind_hash [] = []
+behind_hash (c ∷ cs) = if c == 35 then cs else behind_hash cs
+
+abbrev pub behind_slashes : List ℕ → List ℕ
+behind_slashes (a ∷ b ∷ cs) = if a == 47 && b == 47 then cs else []
+behind_slashes cs = []
+
+-- a data type of another file: Ecore's by name, all others are opaque
+abbrev pub foreign_type : List ℕ → DataType
+foreign_type word = if bytes_eq (file_of word) ecore_space then typed_by ecore_types (behind_slashes (behind_hash word)) else plain Opaque
+
+-- ## Enumerations
+
+-- the text of a literal: its own, else its name
+abbrev pub literal_text : Entry → List ℕ
+literal_text e = option_map_or (λ text. text) (given (codes "literal") e.site.element) (name_of e)
+
+abbrev pub is_literal_role : Role → Bool
+is_literal_role Literal = true
+is_literal_role r = false
+
+-- the literals of the enumeration of this number, where so many enumerations stand before
+abbrev pub literals_from : ℕ → ℕ → List Entry → List Entry
+literals_from enum n [] = []
+literals_from enum n (e ∷ es) =
+    if is_enum_role e.role then literals_from enum (suc n) es
+    else if is_literal_role e.role && n == suc enum then e ∷ literals_from enum n es
+    else literals_from enum n es
+
+abbrev pub literals_of : List Entry → ℕ → List Entry
+literals_of file enum = literals_from enum 0 file
+
+abbrev pub first_text : List Entry → Option (List ℕ)
+first_text [] = None
+first_text (e ∷ es) = Some (literal_text e)
+
+-- ## Attributes
+
+abbrev pub type_of_target : List Entry → Target → Option DataType
+type_of_target file (OfClass c) = None
+type_of_target file (OfEnum e) = Some (record { kind = Enum e; default = first_text (literals_of file e) })
+type_of_target file (OfData d) = Some (own_type d)
+
+abbrev pub local_type : List Entry → List ℕ → Option DataType
+local_type file word = then_ (local_target file word) (type_of_target file)

@@ -1,0 +1,4 @@
+//! Metamodels from documents.
+#![tactic(auto)]
+
+pub mod laws;
