@@ -9,4 +9,3 @@ pub mod Holding
 pub mod Created
 pub mod CreatedModel
 pub mod AttributeWrites
-pub mod Removing
