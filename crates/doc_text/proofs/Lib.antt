@@ -27,3 +27,4 @@ pub mod RawTrees
 pub mod Stacks
 pub mod Keys
 pub mod Resolving
+pub mod Declared
