@@ -25,6 +25,10 @@ pub mod Lengths
 pub mod Paths
 pub mod RawTrees
 pub mod Stacks
+pub mod Moves
+pub mod Sounds
+pub mod Refusals
+pub mod Running
 pub mod Keys
 pub mod Resolving
 pub mod Declared

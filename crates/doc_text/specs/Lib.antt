@@ -26,3 +26,4 @@ pub mod Encodings
 pub mod Characters
 pub mod Reading
 pub mod Answers
+pub mod Stopping

@@ -1,7 +1,7 @@
 -- The characters of a document as its grammar sees them: what each may be, and where it stands.
 -- (XML 1.0, sections 2.2 and 2.3; names are those of the profile: a letter of ASCII, `_` or a character above
 -- U+007F first, then also digits, `-` and `.`.)
-use Rattle.std.specs.Prelude.{ℕ, ◌-◌, ◌||◌, ◌==◌, IsTrue, List, Bool, true, false, nat_le, nat_lt, if◌then◌else◌, encode_utf8}
+use Rattle.std.specs.Prelude.{ℕ, ◌-◌, ◌||◌, ◌==◌, IsTrue, List, [], ◌∷◌, Bool, true, false, nat_le, nat_lt, if◌then◌else◌, encode_utf8}
 use Rattle.std.specs.Int.{is_in_range}
 use Rattle.atl_base.specs.XmlText.{is_xml_character}
 pub use Rattle.doc_text.specs.declared.symbol.Kind.{Kind}
@@ -149,3 +149,7 @@ is_quoted double k = if is_quote double k then false else is_good k
 abbrev pub IsSound : Kind → Type 0
 IsSound Bad = Unit {0}
 IsSound k = IsTrue (is_xml_character (code_of k))
+
+abbrev pub AreSound : List Symbol → Type 0
+AreSound [] = Unit {0}
+AreSound (s ∷ ss) = IsSound s.kind × AreSound ss

@@ -1,5 +1,5 @@
-//! Documents: the trees of the XML profile that models, metamodels and code files are written in, what a document is, and
-//! how one is written.
+//! Documents: the trees of the XML profile that models, metamodels and code files are written in, how a
+//! document is read, and how one is written.
 #![tactic(auto)]
 
 pub mod characters;
@@ -18,4 +18,5 @@ pub mod tree;
 mod write;
 
 pub use escape::{Escapes, push_escaped};
+pub use reading::read_doc;
 pub use write::{DECLARATION, XMI, push_element, push_end_tag, push_opening, write_doc};

@@ -18,6 +18,7 @@ pub struct Pairs {
     items: Items<Pair>,
     // Where each prefix is declared first.
     declared: Option<Box<HashMap<String, usize>>>,
+    alloc: Global,
 }
 
 impl Model for Pairs {
@@ -92,6 +93,7 @@ impl Pairs {
         Pairs {
             items: Items::new(alloc),
             declared: None,
+            alloc,
         }
     }
 
@@ -124,7 +126,7 @@ impl Pairs {
     }
 
     // Adds the first declaration of a prefix.
-    fn push_first(&mut self, alloc: Global, pair: Pair, prefix: String) -> Result<(), AllocError>
+    fn push_first(&mut self, pair: Pair, prefix: String) -> Result<(), AllocError>
         requires declares { (is_declaration_name pair.name ≡ true) × (string_bytes prefix ≡ declared_prefix_of pair.name) }
         requires first { first_of (string_bytes prefix) self.old ≡ None }
         ensures ok { OnOk result (self.new ≡ self.old ++ pair ∷ []) }
@@ -132,7 +134,7 @@ impl Pairs {
     {
         let place = self.items.len();
         self.items.push(pair)?;
-        match note_first(alloc, &mut self.declared, prefix, place) {
+        match note_first(self.alloc, &mut self.declared, prefix, place) {
             Ok(()) => Ok(()),
             Err(e) => {
                 self.items.pop();
@@ -142,15 +144,15 @@ impl Pairs {
     }
 
     /// Adds an attribute at the end. After an `Err` they are as before.
-    pub fn push(&mut self, alloc: Global, pair: Pair) -> Result<(), AllocError>
+    pub fn push(&mut self, pair: Pair) -> Result<(), AllocError>
         ensures ok { OnOk result (self.new ≡ self.old ++ pair ∷ []) }
         ensures err { OnErr result (self.new ≡ self.old) }
     {
         if is_declaration(&pair.name) {
             let prefix = declared_prefix(&pair.name);
             if self.first_of(prefix).is_none() {
-                let prefix = String::from_str(alloc, prefix)?;
-                return self.push_first(alloc, pair, prefix);
+                let prefix = String::from_str(self.alloc, prefix)?;
+                return self.push_first(pair, prefix);
             }
         }
         self.items.push(pair)?;
