@@ -39,3 +39,4 @@ pub mod Refusals
 pub mod Running
 pub mod Keys
 pub mod Resolving
+pub mod Declared

@@ -72,7 +72,7 @@ pub attributes_step : (open_tags : List Start) (xs old : List Pair) (p : Pair) (
 attributes_step open_tags xs old p done new whole = split_step (attributes_of open_tags) xs old p done new whole (attributes_append open_tags xs (p ∷ [])) (out_one (is_declaration p.name) (attribute_in open_tags p))
 
 -- what stands last in two equal lists, and before it
-last_same : {B : Type 0} (xs ys : List B) (x y : B) → xs ++ (x ∷ []) ≡ ys ++ (y ∷ []) → (xs ≡ ys) × (x ≡ y)
+pub last_same : {B : Type 0} (xs ys : List B) (x y : B) → xs ++ (x ∷ []) ≡ ys ++ (y ∷ []) → (xs ≡ ys) × (x ≡ y)
 last_same xs ys x y e =
     let turned : x ∷ reverse xs ≡ y ∷ reverse ys = sym (reverse-append xs (x ∷ [])) ∙ ap reverse e ∙ reverse-append ys (y ∷ []) in
     let fronts : reverse xs ≡ reverse ys = cc in

@@ -5,6 +5,8 @@ pub mod Written
 pub mod Symbols
 pub mod Raw
 pub mod Faults
+pub mod Declarations
+pub mod DeclarationIndex
 pub mod Namespaces
 pub mod Spaces
 pub mod Markup

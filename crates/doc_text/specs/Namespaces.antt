@@ -3,6 +3,7 @@
 use Rattle.std.specs.Prelude.{ℕ, List, [], ◌∷◌, ◌++◌, Bool, true, false, if◌then◌else◌, ◌&&◌, ◌||◌, ◌==◌, bytes_eq, Option, None, Some, codes, is_some}
 use Rattle.atl_base.specs.declared.place.Place.{Place}
 use Rattle.doc_text.specs.Faults.{Fault, TwiceAttribute, Prefix}
+pub use Rattle.doc_text.specs.Declarations.{is_default, is_declaration, declared_prefix}
 use Rattle.doc_text.specs.Raw.{Name, Pair, Start, Trees, Node, Words, Nil, Also}
 use Rattle.doc_text.specs.declared.tree.Prefix.{Prefix as SomePrefix}
 use Rattle.doc_text.specs.declared.tree.Attribute.{Attribute}
@@ -13,17 +14,6 @@ use Rattle.doc_text.specs.declared.tree.Child.TheVariants.{Sub}
 
 abbrev pub xml_space : List ℕ
 xml_space = codes "http://www.w3.org/XML/1998/namespace"
-
--- `xmlns` and `xmlns:p`
-abbrev pub is_default : Name → Bool
-is_default n = bytes_eq n.prefix [] && bytes_eq n.local (codes "xmlns")
-
-abbrev pub is_declaration : Name → Bool
-is_declaration n = is_default n || bytes_eq n.prefix (codes "xmlns")
-
--- the prefix that a declaration declares
-abbrev pub declared_prefix : Name → List ℕ
-declared_prefix n = if is_default n then [] else n.local
 
 -- what these attributes declare of a prefix, else what stands further out
 abbrev pub own_uri : List ℕ → List Pair → Option (List ℕ) → Option (List ℕ)

@@ -3,9 +3,11 @@
 #![tactic(auto)]
 
 pub mod characters;
+mod declarations;
 pub mod encoding;
 mod escape;
 pub mod laws;
+pub mod pairs;
 mod reading;
 pub mod refusal;
 pub mod state;

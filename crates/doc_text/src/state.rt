@@ -1,7 +1,7 @@
 // What reading keeps of a start tag, of the declaration and of a reference.
+use crate::pairs::Pairs;
 use atl_base::place::Place;
 use atl_base::text::Text;
-use sqlite_items::Items;
 
 /// A name as written. The prefix is empty where it has none.
 #[derive(Debug, Drop)]
@@ -23,7 +23,7 @@ pub struct Pair {
 pub struct Start {
     pub at: Place,
     pub name: Name,
-    pub pairs: Items<Pair>,
+    pub pairs: Pairs,
 }
 
 /// What the declaration has told so far.

@@ -7,7 +7,8 @@ ghost use Rattle.doc_text.specs.SeenKeys.{key_in};
 ghost use Rattle.doc_text.specs.RawTrees.{stack_of};
 ghost use Rattle.doc_text.specs.State.{tags};
 
-use crate::reading::names::{attribute_space, declared_prefix, is_declaration};
+use crate::declarations::{declared_prefix, is_declaration};
+use crate::reading::names::attribute_space;
 use crate::reading::open::Open;
 use crate::state::{Name, Start};
 

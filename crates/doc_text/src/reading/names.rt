@@ -1,14 +1,14 @@
 // Names with their namespaces: which declarations are in force in a start tag.
-ghost use Rattle.std.specs.Prelude.{◌≡◌, IfOk, List, ℕ, Option, [], ◌∷◌, ◌&&◌};
+ghost use Rattle.std.specs.Prelude.{◌≡◌, IfOk, List, ℕ, Option, [], ◌∷◌};
 ghost use Rattle.std.specs.Option.{option_copied, option_map, option_or};
-ghost use Rattle.std.specs.Str.{bytes_eq};
-ghost use Rattle.doc_text.specs.Namespaces.{is_default as is_default_name, is_declaration as is_declaration_name, declared_prefix as declared_prefix_of, own_uri as own_uri_of, uri_of as uri_of_prefix, attribute_space as space_of_attribute};
+ghost use Rattle.doc_text.specs.Namespaces.{own_uri as own_uri_of, uri_of as uri_of_prefix, attribute_space as space_of_attribute};
 ghost use Rattle.doc_text.specs.RawTrees.{stack_of};
 ghost use Rattle.doc_text.specs.Spaces.{uri};
 ghost use Rattle.doc_text.specs.State.{tags};
 
+use crate::pairs::Pairs;
 use crate::reading::open::Open;
-use crate::state::{Name, Pair, Start};
+use crate::state::{Name, Start};
 use atl_base::text::Text;
 use std::alloc::{AllocError, Global};
 
@@ -48,47 +48,14 @@ impl<'a> Space<'a> {
     }
 }
 
-/// Whether an attribute declares the default namespace.
-pub fn is_default(name: &Name) -> bool
-    ensures { result ≡ is_default_name name.now }
-{
-    name.prefix.as_str().is_empty() && name.local.as_str() == "xmlns"
-}
-
-/// Whether an attribute declares a namespace.
-pub fn is_declaration(name: &Name) -> bool
-    ensures { result ≡ is_declaration_name name.now }
-{
-    is_default(name) || name.prefix.as_str() == "xmlns"
-}
-
-/// The prefix that a declaration declares.
-pub fn declared_prefix(name: &Name) -> &str
-    ensures { result.now ≡ declared_prefix_of name.now }
-{
-    if is_default(name) {
-        return "";
-    }
-    name.local.as_str()
-}
-
-// Whether an attribute declares this prefix.
-fn declares(name: &Name, prefix: &Text) -> bool
-    ensures { result ≡ (is_declaration_name name.now && bytes_eq (declared_prefix_of name.now) prefix.now) }
-{
-    is_declaration(name) && declared_prefix(name) == prefix.as_str()
-}
-
 /// What these attributes declare of a prefix.
-pub fn own_uri<'a>(prefix: &Text, pairs: &'a [Pair]) -> Option<&'a Text>
+pub fn own_uri<'a>(prefix: &Text, pairs: &'a Pairs) -> Option<&'a Text>
     ensures { (outer : Option (List ℕ)) → own_uri_of prefix.now pairs.now outer ≡ option_or (option_copied result) outer }
 {
-    for pair in pairs {
-        if declares(&pair.name, prefix) {
-            return Some(&pair.value);
-        }
+    match pairs.first_of(prefix.as_str()) {
+        Some(place) => Some(&pairs.as_slice()[place].value),
+        None => None,
     }
-    None
 }
 
 // The namespace of a prefix that nothing declares.
@@ -109,7 +76,7 @@ fn outer_uri<'a>(prefix: &Text, outer: &'a [Open]) -> Option<Space<'a>>
     ensures { option_map uri result ≡ uri_of_prefix prefix.now (tags (stack_of outer.now)) }
 {
     for i in (0..outer.len()).rev() {
-        if let Some(found) = own_uri(prefix, outer[i].tag.pairs.as_slice()) {
+        if let Some(found) = own_uri(prefix, &outer[i].tag.pairs) {
             return Some(Space::Declared(found));
         }
     }
@@ -120,7 +87,7 @@ fn outer_uri<'a>(prefix: &Text, outer: &'a [Open]) -> Option<Space<'a>>
 pub fn uri_of<'a>(prefix: &Text, tag: &'a Start, outer: &'a [Open]) -> Option<Space<'a>>
     ensures { option_map uri result ≡ uri_of_prefix prefix.now (tag.now ∷ tags (stack_of outer.now)) }
 {
-    match own_uri(prefix, tag.pairs.as_slice()) {
+    match own_uri(prefix, &tag.pairs) {
         Some(found) => Some(Space::Declared(found)),
         None => outer_uri(prefix, outer),
     }

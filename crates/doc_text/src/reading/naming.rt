@@ -8,6 +8,7 @@ ghost use Rattle.doc_text.specs.Steps.{named as named_of, matched as matched_of,
 ghost use Rattle.doc_text.specs.Steps.{step as stepped};
 ghost use Rattle.doc_text.specs.declared.reading.next.Naming.TheVariants as N;
 
+use crate::pairs::Pairs;
 use crate::reading::kinds::{is_colon, is_name, push, text_of};
 use crate::reading::next::{Bearer, Move, Naming, Next};
 use crate::reading::open::Open;
@@ -46,7 +47,7 @@ fn named(alloc: Global, bearer: Bearer, name: Name, kind: Kind) -> Result<Move, 
             let tag = Start {
                 at: less,
                 name,
-                pairs: Items::new(alloc),
+                pairs: Pairs::new(alloc),
             };
             tag_goes(alloc, outer, tag, kind)
         }

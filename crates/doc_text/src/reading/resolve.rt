@@ -10,8 +10,9 @@ ghost use Rattle.doc_text.specs.Spaces.{uri};
 ghost use Rattle.doc_text.specs.declared.state.Start.{Start};
 ghost use Rattle.doc_text.specs.State.{tags};
 
+use crate::declarations::{is_declaration, is_default};
 use crate::encoding::is_blank;
-use crate::reading::names::{Space, attribute_space, is_declaration, is_default, uri_of};
+use crate::reading::names::{Space, attribute_space, uri_of};
 use crate::reading::open::Open;
 use crate::reading::raw::{RawTree, RawTrees};
 use crate::state::{Pair, Start};
@@ -124,7 +125,7 @@ fn element(
     let space = space_text(alloc, uri_of(&tag.name.prefix, &tag, outer))?;
     let spaces = attribute_spaces(alloc, &tag, outer)?;
     let Start { at, name, pairs } = tag;
-    let parts = split(alloc, pairs, spaces)?;
+    let parts = split(alloc, pairs.into_items(), spaces)?;
     Ok(Element {
         space,
         name: name.local,
