@@ -1,5 +1,5 @@
 -- A refusal that is answered is the one that reading gives.
-use Rattle.std.proofs.Common.{◌≡◌, ◌∙◌, refl, sym, ap, subst}
+use Rattle.std.proofs.Common.{◌≡◌, refl, sym, subst}
 use Rattle.atl_base.specs.declared.place.Place.{Place}
 use Rattle.doc_text.specs.Faults.{Fault, BadEncoding, BadByte, Expected, MismatchedEnd, TwiceAttribute, Entity, Prefix, TooDeep, Trailing, Unsupported}
 use Rattle.doc_text.specs.Machine.{End, Refused}

@@ -1,12 +1,12 @@
 -- Reading from a place on, by the step that is taken there.
-use Rattle.std.proofs.Common.{◌≡◌, ◌∙◌, ◌<◌, ◌+◌, ℕ, suc, List, ◌∷◌, length, get_or, drop, refl, sym, ap, add-one, drop-cons}
+use Rattle.std.proofs.Common.{◌≡◌, ◌∙◌, ◌<◌, ◌+◌, ℕ, suc, List, ◌∷◌, length, get_or, drop, sym, ap, add-one, drop-cons}
 use Rattle.std.specs.Prelude.{true}
 use Rattle.atl_base.specs.declared.place.Place.{Place}
 use Rattle.doc_text.specs.Symbols.{Symbol}
 use Rattle.doc_text.specs.Faults.{Fault}
-use Rattle.doc_text.specs.State.{State, Step, Goes, Stops, Breaks}
+use Rattle.doc_text.specs.State.{State, Goes, Stops, Breaks}
 use Rattle.doc_text.specs.Steps.{step}
-use Rattle.doc_text.specs.Machine.{End, Refused, after, reason, run}
+use Rattle.doc_text.specs.Machine.{Refused, after, reason, run}
 
 begun : (end : Place) (s : State) (ss : List Symbol) (i : ℕ) (d : Symbol) → i < length ss → run true end s (drop i ss) ≡ after (step true s (get_or ss i d).kind (get_or ss i d).at) (reason end s (get_or ss i d ∷ drop (suc i) ss)) (λ u. run true end u (drop (suc i) ss))
 begun end s ss i d h = ap (run true end s) (drop-cons ss i d h)

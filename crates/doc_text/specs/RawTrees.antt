@@ -1,5 +1,5 @@
 -- The trees that reading builds, as the trees of a document's form, and the elements that are open in it.
-use Rattle.std.specs.Prelude.{ℕ, List, [], ◌∷◌, map, reverse}
+use Rattle.std.specs.Prelude.{List, [], ◌∷◌, map, reverse}
 use Rattle.doc_text.specs.Raw.{Tree, Trees, Node, Words, Nil, Also}
 use Rattle.doc_text.specs.State.{Open, opened}
 use Rattle.doc_text.specs.declared.reading.raw.RawTree.{RawTree, fold-RawTree}

@@ -3,7 +3,7 @@ use Rattle.std.specs.Prelude.{List, ◌≡◌, Result, Ok, Err}
 use Rattle.atl_base.specs.declared.place.Place.{Place}
 use Rattle.doc_text.specs.Symbols.{Symbol}
 use Rattle.doc_text.specs.Faults.{Fault, Trailing}
-use Rattle.doc_text.specs.Machine.{End, Read, Refused, after_root, declared, unwanted}
+use Rattle.doc_text.specs.Machine.{End, Read, after_root, declared, unwanted}
 use Rattle.doc_text.specs.Answers.{refusal_of, IsRefusal}
 use Rattle.doc_text.specs.Nexts.{root_of}
 use Rattle.doc_text.specs.declared.reading.«open».Open.{Open}

@@ -1,4 +1,4 @@
-use Rattle.std.proofs.Common.{◌≡◌, ◌++◌, [], ◌∷◌, ap, encode_utf8}
+use Rattle.std.proofs.Common.{◌++◌, [], ◌∷◌, ap, encode_utf8}
 use Rattle.doc_text.proofs.Opened.{OnOk-map}
 use Rattle.doc_text.proofs.RawTrees.{adds_words, adds_node}
 use Rattle.doc_text.proofs.reading.raw.add_behind.Goals as goal

@@ -1,4 +1,4 @@
-use Rattle.std.proofs.Common.{◌≡◌, encode_utf8}
+use Rattle.std.proofs.Common.{encode_utf8}
 use Rattle.doc_text.proofs.Opened.{OnOk-map}
 use Rattle.doc_text.proofs.RawTrees.{adds_first}
 use Rattle.doc_text.proofs.reading.raw.add_char.Goals as goal
