@@ -3,143 +3,197 @@ use atl_base::text::Text;
 use atl_tree::expr::ExprKind;
 use atl_tree::kind::{KindNode, KindSort};
 use atl_tree::lex::tokens;
-use atl_tree::name::Name;
+use atl_tree::name::{ClassRef, Name};
 use std::test::Fail;
 
-fn shown_place(alloc: Global, place: Place) -> Result<String, Fail> {
-    Ok(format!(in alloc; "{}:{}", place.line, place.column)?)
+fn show_place(out: &mut String, place: Place) -> Result<(), AllocError> {
+    let Place { line, column } = place;
+    write!(out, "@{line}:{column}")
 }
 
 // A name as `x@1:2`.
-fn shown_name(alloc: Global, name: &Name) -> Result<String, Fail> {
-    let (line, column) = (name.place.line, name.place.column);
-    Ok(format!(in alloc; "{}@{line}:{column}", name.text.as_str())?)
+fn show_name(out: &mut String, name: &Name) -> Result<(), AllocError> {
+    out.push_str(name.text.as_str())?;
+    show_place(out, name.place)
+}
+
+fn show_class(out: &mut String, class: &ClassRef) -> Result<(), AllocError> {
+    out.push_str(class.meta.as_str())?;
+    out.push_str("!")?;
+    out.push_str(class.class.as_str())
 }
 
 // A type as `Set(Whole@1:5)@1:1`.
-fn shown_kind(alloc: Global, kind: &KindNode) -> Result<String, Fail> {
-    let (line, column) = (kind.place.line, kind.place.column);
-    let what = match &kind.what {
-        KindSort::Basic(word) => format!(in alloc; "{word:?}")?,
-        KindSort::Class(class) => {
-            format!(in alloc; "{}!{}", class.meta.as_str(), class.class.as_str())?
-        }
+fn show_kind(out: &mut String, kind: &KindNode) -> Result<(), AllocError> {
+    match &kind.what {
+        KindSort::Basic(word) => write!(out, "{word:?}")?,
+        KindSort::Class(class) => show_class(out, class)?,
         KindSort::Coll(word, inner) => {
-            let inner = shown_kind(alloc, inner.get())?;
-            format!(in alloc; "{word:?}({inner})")?
+            write!(out, "{word:?}(")?;
+            show_kind(out, inner.get())?;
+            out.push_str(")")?;
         }
-    };
-    Ok(format!(in alloc; "{what}@{line}:{column}")?)
+    }
+    show_place(out, kind.place)
 }
 
-fn shown_all(alloc: Global, list: &[Expr]) -> Result<String, Fail> {
-    let mut all = String::new(alloc);
-    for e in list {
-        all.push_str(" ")?;
-        all.push_str(shown(alloc, e)?.as_str())?;
+// What stands alone.
+fn show_leaf(out: &mut String, what: &ExprKind) -> Result<(), AllocError> {
+    match what {
+        ExprKind::Number(n) => write!(out, "{n}"),
+        ExprKind::Words(text) => write!(out, "'{}'", text.as_str()),
+        ExprKind::Truth(truth) => write!(out, "{truth}"),
+        ExprKind::Undefined => out.push_str("undefined"),
+        ExprKind::Literal(text) => write!(out, "#{}", text.as_str()),
+        ExprKind::Var(text) => out.push_str(text.as_str()),
+        ExprKind::Own => out.push_str("own"),
+        ExprKind::Module => out.push_str("module"),
+        ExprKind::Class(class) => show_class(out, class),
+        ExprKind::Basic(word) => write!(out, "{word:?}"),
+        _ => Ok(()),
     }
-    Ok(all)
+}
+
+#[cycle(show)]
+fn show_all(out: &mut String, list: &[Expr]) -> Result<(), AllocError> {
+    for e in list {
+        out.push_str(" ")?;
+        show(out, e)?;
+    }
+    Ok(())
+}
+
+#[cycle(show)]
+fn show_next(out: &mut String, e: &Expr) -> Result<(), AllocError> {
+    out.push_str(" ")?;
+    show(out, e)
+}
+
+// A source and its feature, call or iterator.
+#[cycle(show)]
+fn show_link(out: &mut String, what: &ExprKind) -> Result<(), AllocError> {
+    match what {
+        ExprKind::Read(source, name) => {
+            out.push_str("(read")?;
+            show_next(out, source.get())?;
+            write!(out, " {})", name.as_str())
+        }
+        ExprKind::Call(source, arrow, name, list) => {
+            out.push_str("(call")?;
+            show_next(out, source.get())?;
+            write!(out, " {arrow} {}", name.as_str())?;
+            show_all(out, list.as_slice())?;
+            out.push_str(")")
+        }
+        ExprKind::Loop(source, name, variable, body) => {
+            out.push_str("(loop")?;
+            show_next(out, source.get())?;
+            write!(out, " {} ", name.as_str())?;
+            show_name(out, variable)?;
+            show_next(out, body.get())?;
+            out.push_str(")")
+        }
+        ExprKind::Iterate(source, variable, outcome, kind, start, body) => {
+            out.push_str("(iterate")?;
+            show_next(out, source.get())?;
+            out.push_str(" ")?;
+            show_name(out, variable)?;
+            out.push_str(" ")?;
+            show_name(out, outcome)?;
+            out.push_str(" ")?;
+            show_kind(out, kind)?;
+            show_next(out, start.get())?;
+            show_next(out, body.get())?;
+            out.push_str(")")
+        }
+        other => show_leaf(out, other),
+    }
 }
 
 // An expression as a list in parentheses, with its place.
-fn shown(alloc: Global, e: &Expr) -> Result<String, Fail> {
-    let (line, column) = (e.place.line, e.place.column);
-    let what = match &e.what {
-        ExprKind::Number(n) => format!(in alloc; "{n}")?,
-        ExprKind::Words(text) => format!(in alloc; "'{}'", text.as_str())?,
-        ExprKind::Truth(truth) => format!(in alloc; "{truth}")?,
-        ExprKind::Undefined => format!(in alloc; "undefined")?,
-        ExprKind::Literal(text) => format!(in alloc; "#{}", text.as_str())?,
-        ExprKind::Var(text) => format!(in alloc; "{}", text.as_str())?,
-        ExprKind::Own => format!(in alloc; "own")?,
-        ExprKind::Module => format!(in alloc; "module")?,
-        ExprKind::Class(class) => {
-            format!(in alloc; "{}!{}", class.meta.as_str(), class.class.as_str())?
-        }
-        ExprKind::Basic(word) => format!(in alloc; "{word:?}")?,
+#[cycle(show)]
+fn show(out: &mut String, e: &Expr) -> Result<(), AllocError> {
+    match &e.what {
         ExprKind::Coll(word, list) => {
-            let list = shown_all(alloc, list.as_slice())?;
-            format!(in alloc; "{word:?}[{list}]")?
+            write!(out, "{word:?}[")?;
+            show_all(out, list.as_slice())?;
+            out.push_str("]")?;
         }
         ExprKind::If(condition, left, right) => {
-            let condition = shown(alloc, condition.get())?;
-            let left = shown(alloc, left.get())?;
-            let right = shown(alloc, right.get())?;
-            format!(in alloc; "(if {condition} {left} {right})")?
+            out.push_str("(if")?;
+            show_next(out, condition.get())?;
+            show_next(out, left.get())?;
+            show_next(out, right.get())?;
+            out.push_str(")")?;
         }
         ExprKind::Let(name, kind, value, body) => {
-            let name = shown_name(alloc, name)?;
-            let kind = shown_kind(alloc, kind)?;
-            let value = shown(alloc, value.get())?;
-            let body = shown(alloc, body.get())?;
-            format!(in alloc; "(let {name} {kind} {value} {body})")?
+            out.push_str("(let ")?;
+            show_name(out, name)?;
+            out.push_str(" ")?;
+            show_kind(out, kind)?;
+            show_next(out, value.get())?;
+            show_next(out, body.get())?;
+            out.push_str(")")?;
         }
         ExprKind::Unary(op, operand) => {
-            let operand = shown(alloc, operand.get())?;
-            format!(in alloc; "({op:?} {operand})")?
+            write!(out, "({op:?}")?;
+            show_next(out, operand.get())?;
+            out.push_str(")")?;
         }
         ExprKind::Binary(op, left, right) => {
-            let left = shown(alloc, left.get())?;
-            let right = shown(alloc, right.get())?;
-            format!(in alloc; "({op:?} {left} {right})")?
+            write!(out, "({op:?}")?;
+            show_next(out, left.get())?;
+            show_next(out, right.get())?;
+            out.push_str(")")?;
         }
-        ExprKind::Read(source, name) => {
-            let source = shown(alloc, source.get())?;
-            format!(in alloc; "(read {source} {})", name.as_str())?
+        other => show_link(out, other)?,
+    }
+    show_place(out, e.place)
+}
+
+fn show_outcome(
+    out: &mut String,
+    read: &Result<(Expr, usize), ParseRefusal>,
+) -> Result<(), AllocError> {
+    match read {
+        Ok((e, after)) => {
+            show(out, e)?;
+            write!(out, " {after}")
         }
-        ExprKind::Call(source, arrow, name, list) => {
-            let source = shown(alloc, source.get())?;
-            let list = shown_all(alloc, list.as_slice())?;
-            format!(in alloc; "(call {source} {arrow} {}{list})", name.as_str())?
+        Err(ParseRefusal::Expected(place)) => {
+            write!(out, "Expected {}:{}", place.line, place.column)
         }
-        ExprKind::Loop(source, name, variable, body) => {
-            let source = shown(alloc, source.get())?;
-            let variable = shown_name(alloc, variable)?;
-            let body = shown(alloc, body.get())?;
-            format!(in alloc; "(loop {source} {} {variable} {body})", name.as_str())?
+        Err(ParseRefusal::TooDeep(place)) => {
+            write!(out, "TooDeep {}:{}", place.line, place.column)
         }
-        ExprKind::Iterate(source, variable, outcome, kind, start, body) => {
-            let source = shown(alloc, source.get())?;
-            let variable = shown_name(alloc, variable)?;
-            let outcome = shown_name(alloc, outcome)?;
-            let kind = shown_kind(alloc, kind)?;
-            let start = shown(alloc, start.get())?;
-            let body = shown(alloc, body.get())?;
-            format!(in alloc; "(iterate {source} {variable} {outcome} {kind} {start} {body})")?
-        }
-    };
-    Ok(format!(in alloc; "{what}@{line}:{column}")?)
+        Err(other) => write!(out, "{other:?}"),
+    }
+}
+
+// The tokens of a text.
+fn tokens_of(alloc: Global, text: &str) -> Result<Option<Tokens>, Fail> {
+    let text = Text::from_bytes(alloc, text.as_bytes())?;
+    if text.bytes().len() > 4294967294 {
+        return Ok(None);
+    }
+    match tokens(alloc, &text) {
+        Ok(list) => Ok(Some(list)),
+        Err(_) => Ok(None),
+    }
 }
 
 // The expression from the token on and the number of the token after it, or the refusal.
 fn told(alloc: Global, text: &str, from: usize) -> Result<String, Fail> {
-    let text = Text::from_bytes(alloc, text.as_bytes())?;
-    if text.bytes().len() > 4294967294 {
-        return Ok(String::new(alloc));
-    }
-    let Ok(list) = tokens(alloc, &text) else {
-        return Ok(format!(in alloc; "no tokens")?);
+    let mut out = String::new(alloc);
+    let Some(list) = tokens_of(alloc, text)? else {
+        return Ok(out);
     };
     if from > list.list.len() {
-        return Ok(format!(in alloc; "no token")?);
+        return Ok(out);
     }
-    match parse_expr(alloc, &list, from) {
-        Ok((e, after)) => {
-            let e = shown(alloc, &e)?;
-            Ok(format!(in alloc; "{e} {after}")?)
-        }
-        Err(ParseRefusal::Expected(place)) => {
-            let place = shown_place(alloc, place)?;
-            Ok(format!(in alloc; "Expected {place}")?)
-        }
-        Err(ParseRefusal::TooDeep(place)) => {
-            let place = shown_place(alloc, place)?;
-            Ok(format!(in alloc; "TooDeep {place}")?)
-        }
-        Err(ParseRefusal::Lex(_)) => Ok(format!(in alloc; "Lex")?),
-        Err(ParseRefusal::OtherUnit(_)) => Ok(format!(in alloc; "OtherUnit")?),
-        Err(ParseRefusal::Memory) => Ok(format!(in alloc; "Memory")?),
-    }
+    let read = parse_expr(alloc, &list, from);
+    show_outcome(&mut out, &read)?;
+    Ok(out)
 }
 
 #[test]
@@ -446,11 +500,7 @@ fn expressions_nest_at_most_200(rt: HostRuntime) -> Result<(), Fail> {
 
 // How many tokens the expression has that the text begins with, or 0.
 fn read_length(alloc: Global, text: &str) -> Result<usize, Fail> {
-    let text = Text::from_bytes(alloc, text.as_bytes())?;
-    if text.bytes().len() > 4294967294 {
-        return Ok(0);
-    }
-    let Ok(list) = tokens(alloc, &text) else {
+    let Some(list) = tokens_of(alloc, text)? else {
         return Ok(0);
     };
     match parse_expr(alloc, &list, 0) {
