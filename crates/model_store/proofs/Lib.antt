@@ -1,5 +1,7 @@
 mod Chains
 mod Holders
 mod Numbers
+mod Samples
+mod Rising
 mod Trees
 mod Updates

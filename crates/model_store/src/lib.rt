@@ -11,4 +11,6 @@ mod pairs;
 pub mod parts;
 pub mod refusal;
 mod roots;
+#[cfg(test)]
+mod tests;
 mod types;
