@@ -1,7 +1,10 @@
 mod Chains
+mod Climbing
+mod Digits
 mod Holders
 mod Numbers
 mod Samples
+mod Places
 mod Rising
 mod Trees
 mod Updates

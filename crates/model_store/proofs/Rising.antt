@@ -1,11 +1,11 @@
 -- Where each object has a smaller number than its contents, none is on a cycle.
-use Rattle.std.proofs.Common.{◌≡◌, ℕ, ◌+◌, ◌<◌, ◌≤◌, List, [], length, get_or, take, sym, subst, ⊎_elim, arith, Option, None}
+use Rattle.std.proofs.Common.{ℕ, ◌<◌, ◌≤◌, [], length, subst, ⊎_elim, arith, None}
 use Rattle.std.specs.Option.{option_map_or}
 use Rattle.std.specs.List.{Contains}
 use Rattle.std.proofs.lemmas.Bool.{cases_lt}
 use Rattle.std.proofs.lemmas.List.{get_or_past}
 use Rattle.atl_base.specs.declared.numbers.ObjId.{ObjId}
-use Rattle.model_store.specs.Contents.{Contents, object_at}
+use Rattle.model_store.specs.Contents.{Contents}
 use Rattle.model_store.specs.Order.{contents, contents_of, Encloses, itself, by_content, HasNoCycle}
 
 -- the contents of the object of a number stand above it

@@ -9,6 +9,7 @@ pub mod model;
 mod order;
 mod pairs;
 pub mod parts;
+mod path;
 pub mod refusal;
 mod roots;
 #[cfg(test)]
