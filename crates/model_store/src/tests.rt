@@ -240,6 +240,30 @@ fn extent(model: &Model, class: u32) -> Result<Vec<ObjId>, AllocError> {
     Err(AllocError)
 }
 
+fn path(model: &Model, o: ObjId) -> Result<Text, StoreRefusal> {
+    if rises(model)? {
+        return model.path_of(o);
+    }
+    Err(StoreRefusal::Memory)
+}
+
+#[test]
+fn paths_lead_from_a_root(rt: HostRuntime) -> Result<(), Fail> {
+    let alloc = rt.alloc();
+    let mut model = empty(alloc)?;
+    let a = make(&mut model, 0)?;
+    let b = make(&mut model, 1)?;
+    let c = make(&mut model, 0)?;
+    assert_eq!(rt; path(&model, c)?.as_str(), "/2");
+    model.write(a, KIDS, &objects(alloc, &[c, b])?)?;
+    assert_eq!(rt; path(&model, a)?.as_str(), "/");
+    assert_eq!(rt; path(&model, b)?.as_str(), "//@kids.1");
+    model.write(b, HEART, &objects(alloc, &[c])?)?;
+    assert_eq!(rt; path(&model, c)?.as_str(), "//@kids.0/@heart");
+    assert_eq!(rt; path(&model, ObjId(3)).err(), Some(StoreRefusal::NoObject));
+    Ok(())
+}
+
 #[test]
 fn objects_are_numbered(rt: HostRuntime) -> Result<(), Fail> {
     let alloc = rt.alloc();
