@@ -1,6 +1,11 @@
 mod Chains
+mod Climbing
+mod Digits
 mod Holders
 mod Numbers
+mod Samples
+mod Places
+mod Rising
 mod Trees
 mod Updates
 pub mod Slots

@@ -1,11 +1,11 @@
 -- Other values in one slot of one object.
-use Rattle.std.proofs.Common.{◌≡◌, ◌≢◌, ℕ, ◌+◌, ◌++◌, ◌<◌, ◌≤◌, List, [], ◌∷◌, length, sym, ap, subst, ◌∙◌, ⊎_elim, arith, length-append, Option, Some, None, cond}
-use Rattle.std.specs.Prelude.{slice_index_or, slice_set, option_map, is_some}
+use Rattle.std.proofs.Common.{refl, ◌≡◌, ◌≢◌, ℕ, ◌+◌, ◌++◌, ◌<◌, ◌≤◌, List, [], ◌∷◌, length, sym, ap, subst, ◌∙◌, ⊎_elim, arith, length-append, Option, Some, None, cond}
+use Rattle.std.specs.Prelude.{slice_index_or, slice_set, option_map, is_some, map, filter}
 use Rattle.std.specs.Option.{option_map_or}
 use Rattle.std.specs.List.{count_by}
 use Rattle.std.proofs.lemmas.Bool.{cases_lt, cases_eq}
 use Rattle.std.proofs.lemmas.List.{get_or_default, get_or_past, get_or-set_same, get_or-set_other, get_or_append_left, get_or_push, length-set, length-map}
-use Rattle.std.proofs.lemmas.List.Sums.{sum_by-set, sum_by_push}
+use Rattle.std.proofs.lemmas.List.Sums.{sum_by-set, sum_by_push, length-filter}
 use Rattle.std.proofs.lemmas.Option.{none-some, same_Some}
 use Rattle.atl_base.specs.declared.numbers.FeatId.{FeatId}
 use Rattle.atl_base.specs.declared.numbers.ObjId.{ObjId}
@@ -83,3 +83,14 @@ shaped_push meta xs x shaped new = λ n object e. ⊎_elim
 
 pub fresh_shaped : (meta : Parts) (class : ClassId) → class.0 < length meta.classes → IsShaped meta (fresh meta class)
 fresh_shaped meta class h = record { class_within = h; slots = length-map (features meta.classes class) (initial meta) }
+
+-- ## All at once
+
+all_kept : (xs : List Object) → filter is_some (map Some xs) ≡ map Some xs
+all_kept [] = refl
+all_kept (x ∷ xs) = ap (λ l. let r : List (Option Object) = Some x ∷ l in r) (all_kept xs)
+
+pub counted_all : (xs : List Object) → object_count (map Some xs) ≡ length xs
+counted_all xs =
+    let places : List (Option Object) = map Some xs in
+    sym (length-filter is_some places) ∙ ap length (all_kept xs) ∙ length-map xs Some

@@ -10,6 +10,9 @@ pub mod model;
 mod order;
 mod pairs;
 pub mod parts;
+mod path;
 pub mod refusal;
 mod roots;
+#[cfg(test)]
+mod tests;
 mod types;

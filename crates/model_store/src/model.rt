@@ -1,8 +1,8 @@
 // A model over a metamodel.
-ghost use Rattle.std.specs.Prelude.{◌≡◌, ◌≤◌, ◌<◌, ◌⊎◌, ◌++◌, ◌∷◌, IfOk, OnOk, IfSome, MatchResult, [], length, Some, None, option_map, is_ok, if◌then◌else◌};
+ghost use Rattle.std.specs.Prelude.{◌≡◌, ◌≤◌, ◌<◌, ◌⊎◌, ◌++◌, ◌∷◌, IfOk, OnOk, IfSome, MatchResult, [], length, Some, None, option_map, is_ok, if◌then◌else◌, map};
 ghost use Rattle.std.specs.Option.{option_copied, option_map_or};
 ghost use Rattle.model_store.specs.declared.parts.Object.{Object};
-ghost use Rattle.model_store.specs.Valid.{IsConcrete};
+ghost use Rattle.model_store.specs.Valid.{IsConcrete, IsModel};
 ghost use Rattle.model_store.specs.Writes.{freed, taken_in, rewired, Creates, Writes};
 ghost use Rattle.model_store.specs.Contents.{object_count, object_at, class_of, slot, with_slot, set_slot, refusal, container, holder, place_in, HasPlace, IsShaped};
 
@@ -53,6 +53,16 @@ fn set_cells(place: &mut Option<Object>, at: usize, cells: Slot)
     }
 }
 
+// Objects at their places.
+fn placed(alloc: Global, objects: Vec<Object>) -> Result<Vec<Option<Object>>, AllocError>
+    ensures { IfOk result (λ places. places.items ≡ map Some objects.items) }
+{
+    objects
+        .into_iter()
+        .map(|object| Some(object))
+        .collect(alloc)
+}
+
 // An object more, which is a root.
 fn push_root(
     objects: &mut Vec<Option<Object>>,
@@ -84,6 +94,28 @@ impl Model {
             objects: Vec::new(alloc),
             count: 0,
             roots: Vec::new(alloc),
+        })
+    }
+
+    /// The model of these objects, numbered from 0 in their order, and of these roots. There may be containment cycles.
+    pub fn from_parts(
+        alloc: Global,
+        meta: Rc<Metamodel>,
+        objects: Vec<Object>,
+        roots: Vec<ObjId>,
+    ) -> Result<Model, AllocError>
+        requires few { length objects.items ≤ 1000000 }
+        requires model { IsModel (record { meta = meta.value; objects = map Some objects.items; roots = roots.items }) }
+        ensures { IfOk result (λ model. model ≡ record { meta = meta.value; objects = map Some objects.items; roots = roots.items }) }
+    {
+        let count = objects.len();
+        let objects = placed(alloc, objects)?;
+        Ok(Model {
+            alloc,
+            meta,
+            objects,
+            count,
+            roots,
         })
     }
 

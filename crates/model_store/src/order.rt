@@ -53,7 +53,7 @@ fn contents_of(alloc: Global, meta: &Metamodel, object: &Object) -> Result<Vec<O
 }
 
 // The contents of an object, and none where there is no object.
-fn contents(model: &Model, o: ObjId) -> Result<Vec<ObjId>, AllocError>
+pub(crate) fn contents(model: &Model, o: ObjId) -> Result<Vec<ObjId>, AllocError>
     ensures { IfOk result (λ list. list.items ≡ contents model.now o) }
 {
     match model.object(o) {

@@ -1,20 +1,6 @@
-use Rattle.std.proofs.Common.{◌≡◌, ◌<◌, ◌≤◌, ℕ, Bool, List, length, cond, sym, ap, ◌∙◌, ⊎_elim, arith, Some, None}
-use Rattle.std.specs.Prelude.{position}
-use Rattle.std.specs.List.{position_or_len}
-use Rattle.std.proofs.lemmas.Bool.{cases_lt, lt-ltb}
-use Rattle.std.proofs.lemmas.List.Sums.{prefix_len-le-length}
-use Rattle.std.proofs.lemmas.Option.{none-some}
+use Rattle.std.proofs.Common.{sym, ◌∙◌}
+use Rattle.model_store.proofs.Places.{not_found}
 use Rattle.model_store.proofs.roots.place_for.Goals as goal
-
--- where none passes, the first that passes is past the end
-not_found : {X : Type 0} (p : X → Bool) (xs : List X) → position p xs ≡ None → length xs ≡ position_or_len p xs
-not_found p xs e =
-    let n : ℕ = position_or_len p xs in
-    let within : n ≤ length xs = prefix_len-le-length _ xs in
-    ⊎_elim
-    (λ (h : n < length xs). absurd (none-some n (sym e ∙ ap (λ b. cond b (Some n) None) (lt-ltb n (length xs) h))))
-    (λ (h : length xs ≤ n). omega arith)
-    (cases_lt n (length xs))
 
 pub returns-in-None-clause-place : goal.returns-in-None-clause-place
 returns-in-None-clause-place c = not_found _ c.args.roots.now (sym c.first_greater.ensures ∙ c.in-None.is)

@@ -1,0 +1,104 @@
+-- The fragments that name objects: `/` or `/k` for a root, k from 0, and then `/@f.i` or `/@f` for each step to a content, i from 0.
+-- (After the fragment paths that EMF writes.)
+use Rattle.std.specs.Prelude.{◌≡◌, ℕ, zero, suc, ◌==◌, flat_map, IsSome, Result, Ok, Err, ◌&&◌, Bool, false, List, [], ◌∷◌, ◌++◌, length, slice_get, Option, Some, None, if◌then◌else◌}
+use Rattle.std.specs.Fmt.{decimal}
+use Rattle.std.specs.Int.{is_in_range}
+use Rattle.std.specs.List.{position_or_len, find, list_all, list_any, before_first, after_first}
+use Rattle.std.specs.Option.{option_map_or}
+use Rattle.std.specs.Str.{bytes_eq}
+use Rattle.atl_base.specs.declared.numbers.FeatId.{FeatId}
+use Rattle.atl_base.specs.declared.numbers.ObjId.{ObjId}
+use Rattle.ecore_meta.specs.Inheritance.{features, name_of}
+use Rattle.ecore_meta.specs.Valid.{number_of}
+use Rattle.model_store.specs.declared.parts.Object.{Object}
+use Rattle.model_store.specs.declared.path.Step.{Step}
+use Rattle.model_store.specs.declared.refusal.StoreRefusal.{StoreRefusal}
+use Rattle.model_store.specs.declared.refusal.StoreRefusal.TheVariants.{NoObject, NoFeature, BadType, Full, Memory}
+use Rattle.model_store.specs.Contents.{Contents, is_object_no, object_at, is_many, contains, slot, refers_to, objects_of, first_object, holder}
+
+-- ## The fragment of an object
+
+-- the slash, the feature, and in a many-valued one the place
+abbrev pub step_text : Contents → Step → List ℕ
+step_text m s = 47 ∷ 64 ∷ (name_of m.meta.features s.feature ++ (if is_many m.meta s.feature then 46 ∷ decimal (position_or_len (refers_to s.to) (slot m s.from s.feature)) else []))
+
+-- a single root needs no number
+abbrev pub root_text : Contents → ObjId → List ℕ
+root_text m o = 47 ∷ (if length m.roots == 1 then [] else decimal (position_or_len (is_object_no o) m.roots))
+
+-- from container to content down to an object, from at most so many levels above
+unfoldable pub steps_within : ℕ → Contents → ObjId → List Step
+steps_within zero m o = []
+steps_within (suc n) m o = option_map_or (λ at. steps_within n m at.0 ++ record { from = at.0; feature = at.1; to = o } ∷ []) (holder m o) []
+
+-- where they begin
+unfoldable pub top_within : ℕ → Contents → ObjId → ObjId
+top_within zero m o = o
+top_within (suc n) m o = option_map_or (λ at. top_within n m at.0) (holder m o) o
+
+-- Without a cycle there are no more levels above an object than there are objects: so this leads from a root down to it.
+unfoldable pub path : Contents → ObjId → List ℕ
+path m o = root_text m (top_within (suc (length m.objects)) m o) ++ flat_map (step_text m) (steps_within (suc (length m.objects)) m o)
+
+-- what the call answers
+abbrev pub GivesPath : Contents → ObjId → Result (List ℕ) StoreRefusal → Type 0
+GivesPath m o (Ok text) = IsSome (object_at m.objects o) × (text ≡ path m o)
+GivesPath m o (Err NoObject) = object_at m.objects o ≡ None
+GivesPath m o (Err Memory) = Unit {0}
+GivesPath m o (Err NoFeature) = ⊥
+GivesPath m o (Err BadType) = ⊥
+GivesPath m o (Err Full) = ⊥
+
+-- ## The object of a fragment
+
+-- the parts of a text between its slashes
+abbrev pub onto_first : ℕ → List (List ℕ) → List (List ℕ)
+onto_first b [] = (b ∷ []) ∷ []
+onto_first b (part ∷ parts) = (b ∷ part) ∷ parts
+
+abbrev pub parts_of : List ℕ → List (List ℕ)
+parts_of [] = [] ∷ []
+parts_of (b ∷ bytes) = if b == 47 then [] ∷ parts_of bytes else onto_first b (parts_of bytes)
+
+-- one digit or more
+abbrev pub are_digits : List ℕ → Bool
+are_digits [] = false
+are_digits (b ∷ bytes) = list_all (is_in_range 48 57) (b ∷ bytes)
+
+-- the element of a number, which is counted from 0
+abbrev pub numbered : List ObjId → List ℕ → Option ObjId
+numbered objects digits = if are_digits digits then slice_get objects (number_of digits) else None
+
+-- an empty part names the single root
+abbrev pub root_named : List ObjId → List ℕ → Option ObjId
+root_named (o ∷ []) [] = Some o
+root_named roots digits = numbered roots digits
+
+-- the containment feature of a name
+abbrev pub content_feature : Contents → Object → List ℕ → Option FeatId
+content_feature m object name = find (λ f. contains m.meta f && bytes_eq (name_of m.meta.features f) name) (features m.meta.classes object.class)
+
+-- `f.i` of a many-valued feature, `f` of a single-valued one; no name has a `.`
+abbrev pub content_by : Contents → ObjId → List ℕ → FeatId → Option ObjId
+content_by m o text f = if is_many m.meta f
+    then (if list_any (λ b. b == 46) text then numbered (objects_of (slot m o f)) (after_first (λ b. b == 46) text) else None)
+    else (if list_any (λ b. b == 46) text then None else first_object (slot m o f))
+
+abbrev pub content_named : Contents → ObjId → List ℕ → Option ObjId
+content_named m o [] = None
+content_named m o (b ∷ text) = if b == 64
+    then option_map_or (λ object. option_map_or (content_by m o text) (content_feature m object (before_first (λ b. b == 46) text)) None) (object_at m.objects o) None
+    else None
+
+abbrev pub descend : Contents → Option ObjId → List (List ℕ) → Option ObjId
+descend m None parts = None
+descend m (Some o) [] = Some o
+descend m (Some o) (part ∷ parts) = descend m (content_named m o part) parts
+
+-- A fragment begins with a slash.
+abbrev pub at_parts : Contents → List (List ℕ) → Option ObjId
+at_parts m ([] ∷ (root ∷ parts)) = descend m (root_named m.roots root) parts
+at_parts m parts = None
+
+abbrev pub object_of_path : Contents → List ℕ → Option ObjId
+object_of_path m text = at_parts m (parts_of text)
