@@ -56,9 +56,9 @@ module _ (m : Contents) (valid : IsMetamodel m.meta) (model : IsModel m) (o : Ob
   by : (P : ObjId → FeatId → Type 0) → P o f → ((p : ObjId) (g : FeatId) → (p ≡ o → g ≡ f → ⊥) → P p g) → (p : ObjId) (g : FeatId) → P p g
   by P h k p g = ⊎_elim
       (λ e. let x = same_object p o e in ⊎_elim
-        (λ i. let y = same_feature g f i in subst (λ q. P q g) (sym x) (subst (P o) (sym y) h))
-        (λ d. k p g (λ _ y. d (ap (λ z. z.0) y)))
-        (cases_eq g.0 f.0))
+      (λ i. let y = same_feature g f i in subst (λ q. P q g) (sym x) (subst (P o) (sym y) h))
+      (λ d. k p g (λ _ y. d (ap (λ z. z.0) y)))
+      (cases_eq g.0 f.0))
       (λ d. k p g (λ x _. d (ap (λ z. z.0) x)))
       (cases_eq p.0 o.0)
 
@@ -122,8 +122,9 @@ module _ (m : Contents) (valid : IsMetamodel m.meta) (model : IsModel m) (o : Ob
     opposites = λ p q g h e x. kept_reference q h p (model.opposites p q g h e (old_reference p g q x));
     contained_once = λ p r q g h c d x y. model.contained_once p r q g h c d (old_reference p g q x) (old_reference r h q y);
     roots = λ p. (
-        λ h. let x = (model.roots p).0 h in (same_object_there p ∙ x.0, contained_not now (seen_once m.meta valid) shaped p (λ r g c y. uncontained m p x.1 r g c (old_reference r g p y))),
-        λ h. (model.roots p).1 (sym (same_object_there p) ∙ h.0, contained_not m (seen_once m.meta valid) model.shaped p (λ r g c y. uncontained now p h.1 r g c (kept_reference r g p y))));
+      λ h. let x = (model.roots p).0 h in (same_object_there p ∙ x.0, contained_not now (seen_once m.meta valid) shaped p (λ r g c y. uncontained m p x.1 r g c (old_reference r g p y))),
+      λ h. (model.roots p).1 (sym (same_object_there p) ∙ h.0, contained_not m (seen_once m.meta valid) model.shaped p (λ r g c y. uncontained now p h.1 r g c (kept_reference r g p y))),
+    );
     roots_differ = model.roots_differ;
   }
 
@@ -174,4 +175,4 @@ module _ (m : Contents) (f : FeatId) where
 pub attribute_write_is_model : (m : Contents) → IsMetamodel m.meta → IsModel m → (o : ObjId) (f : FeatId) (values : List Cellv) → HasSlot m o f → Fits m f values → refers m.meta f ≡ false → IsModel (write m o f values)
 attribute_write_is_model m valid model o f values has fit r =
     subst IsModel (sym (ap (λ b. if b then rewired o f values m else set_slot m o f (written m.meta f (slot m o f) values)) r))
-      (set_slot_is_model m valid model o f has r (written m.meta f (slot m o f) values) (written_fits m f (slot m o f) values (initial_fits m valid f) (model.fits o f has) fit) (written_filled m f (slot m o f) values r))
+    (set_slot_is_model m valid model o f has r (written m.meta f (slot m o f) values) (written_fits m f (slot m o f) values (initial_fits m valid f) (model.fits o f has) fit) (written_filled m f (slot m o f) values r))

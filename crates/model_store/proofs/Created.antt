@@ -156,7 +156,7 @@ module _ (m : Contents) (model : IsModel m) (class : ClassId) (within : class.0 
       by_place (Some k) e h =
           let x = position-Some (λ g. g.0 == f.0) (features m.meta.classes class) k f e in
           no_object_in m.meta (slice_index_or (features m.meta.classes class) k f) q
-            (subst (λ cells. Contains cells (Obj q)) (get_or-map (initial m.meta) (features m.meta.classes class) k f [] x.0) h)
+          (subst (λ cells. Contains cells (Obj q)) (get_or-map (initial m.meta) (features m.meta.classes class) k f [] x.0) h)
 
   pub referred_before : (o : ObjId) (f : FeatId) (q : ObjId) → Refers now o f q → (o.0 ≢ n) × Refers m o f q
   referred_before o f q h = ⊎_elim

@@ -43,7 +43,7 @@ seen_once meta v class l i j f a b e g = ⊎_elim
     apart : (i j : ℕ) → i < j → j < length seen → slice_index_or seen i f ≡ f → slice_index_or seen j f ≡ f → ⊥
     apart i j lt b e g =
         v.seen_differ class l i j [] lt (omega (arith, b, length-map seen (name_of meta.features)))
-          (get_or-map (name_of meta.features) seen i f [] (omega (arith, lt, b)) ∙ ap (name_of meta.features) (e ∙ sym g) ∙ sym (get_or-map (name_of meta.features) seen j f [] b))
+        (get_or-map (name_of meta.features) seen i f [] (omega (arith, lt, b)) ∙ ap (name_of meta.features) (e ∙ sym g) ∙ sym (get_or-map (name_of meta.features) seen j f [] b))
 
 -- ## Defaults are values of their types
 
@@ -214,27 +214,30 @@ module _ (m : Contents) (valid : IsMetamodel m.meta) (model : IsModel m) (class 
       on (Some object) e s = old_object m model class within p object e
 
   free_before : (p : ObjId) → IsFree m p → IsFree after p
-  free_before p h =
-      (ap is_some (elsewhere m model class within p (old_exists p h.0)) ∙ h.0,
-       contained_not after once shaped p (λ r f c x. uncontained m p h.1 r f c (referred_before m model class within r f p x).1))
+  free_before p h = (
+    ap is_some (elsewhere m model class within p (old_exists p h.0)) ∙ h.0,
+    contained_not after once shaped p (λ r f c x. uncontained m p h.1 r f c (referred_before m model class within r f p x).1),
+  )
 
   free_new : IsFree after o'
   free_new = (ap is_some (there m model class within), contained_not after once shaped o' (λ r f c x. let b = referred_before m model class within r f o' x in was_object m model class within r f o' b.1 refl))
 
   free_after : (p : ObjId) → p.0 ≢ length m.objects → IsFree after p → IsFree m p
-  free_after p d h =
-      (sym (ap is_some (elsewhere m model class within p d)) ∙ h.0,
-       contained_not m once model.shaped p (λ r f c x. uncontained after p h.1 r f c (still r f p (refers_from r f p x) x)))
+  free_after p d h = (
+    sym (ap is_some (elsewhere m model class within p d)) ∙ h.0,
+    contained_not m once model.shaped p (λ r f c x. uncontained after p h.1 r f c (still r f p (refers_from r f p x) x)),
+  )
     where
       refers_from : (r : ObjId) (f : FeatId) (q : ObjId) → Refers m r f q → r.0 ≢ length m.objects
       refers_from r f q x = let a = at_of m r f (slot_of m r f (Obj q) x) in old_object m model class within r a.object a.there
 
   roots : (p : ObjId) → Contains after.roots p ↔ IsFree after p
   roots p = (
-      λ h. ⊎_elim (λ g. free_before p ((model.roots p).0 g)) (λ g. ⊎_elim (λ e. subst (IsFree after) e free_new) (λ z. absurd (no_root z)) (Contains_cases o' p [] g)) (Contains-append_cases m.roots (o' ∷ []) p h),
-      λ h. by (λ p. IsFree after p → Contains after.roots p)
+    λ h. ⊎_elim (λ g. free_before p ((model.roots p).0 g)) (λ g. ⊎_elim (λ e. subst (IsFree after) e free_new) (λ z. absurd (no_root z)) (Contains_cases o' p [] g)) (Contains-append_cases m.roots (o' ∷ []) p h),
+    λ h. by (λ p. IsFree after p → Contains after.roots p)
         (λ h. Contains-append_right m.roots (o' ∷ []) o' (0, omega arith, refl))
-        (λ p d h. Contains-append_left m.roots (o' ∷ []) p ((model.roots p).1 (free_after p d h))) p h)
+        (λ p d h. Contains-append_left m.roots (o' ∷ []) p ((model.roots p).1 (free_after p d h))) p h,
+  )
     where
       no_root : Contains {X = ObjId} [] p → ⊥
       no_root z = omega (arith, z.1)

@@ -104,7 +104,7 @@ module _ (m : Contents) (shaped : AreShaped m.meta m.objects) (o : ObjId) (f : F
   pub slot_other : (p : ObjId) (g : FeatId) → (p ≡ o → g ≡ f → ⊥) → slot after p g ≡ slot m p g
   slot_other p g n = ⊎_elim
       (λ (e : p.0 ≡ o.0). let same = same_object p o e in
-        ap (λ q. slot after q g) same ∙ of_object (place_in m.meta a.object.class g) refl (n same) ∙ ap (λ q. slot m q g) (sym same))
+      ap (λ q. slot after q g) same ∙ of_object (place_in m.meta a.object.class g) refl (n same) ∙ ap (λ q. slot m q g) (sym same))
       (λ (k : p.0 ≢ o.0). ap (λ x. option_map_or (slot_in m.meta g) x []) (elsewhere p k))
       (cases_eq p.0 o.0)
     where
