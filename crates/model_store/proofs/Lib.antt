@@ -10,3 +10,4 @@ pub mod Created
 pub mod CreatedModel
 pub mod AttributeWrites
 pub mod Removing
+pub mod Wired
