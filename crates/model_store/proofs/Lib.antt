@@ -11,3 +11,4 @@ pub mod CreatedModel
 pub mod AttributeWrites
 pub mod Removing
 pub mod Wired
+pub mod ListedRoots

@@ -111,7 +111,6 @@ join_changes m shaped x h y has n =
 -- References are gone, and nothing else is changed.
 pub record IsWithout (m n : Contents) (Gone : ObjId → FeatId → ObjId → Type 0) : Type 0 where
   pub meta : n.meta ≡ m.meta
-  pub roots : n.roots ≡ m.roots
   pub shaped : AreShaped m.meta n.objects
   pub class : (p : ObjId) → class_of n p ≡ class_of m p
   pub exists : (p : ObjId) → is_some (object_at n.objects p) ≡ is_some (object_at m.objects p)
@@ -148,7 +147,6 @@ cut_without m shaped x h y r = made (cut_changes m shaped x h y)
     made : IsChanged m (cut x h y m) x h (without y (slot m x h)) → IsWithout m (cut x h y m) (IsThis x h y)
     made c = record {
       meta = c.meta;
-      roots = c.roots;
       shaped = c.shaped;
       class = c.class;
       exists = c.exists;

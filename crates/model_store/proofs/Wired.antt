@@ -129,7 +129,6 @@ wired_without m n valid w Gone pairs x =
 pub without_both : (m n k : Contents) (G H : ObjId → FeatId → ObjId → Type 0) → IsWithout m n G → IsWithout n k H → IsWithout m k (λ p g q. G p g q ⊎ H p g q)
 without_both m n k G H a b = record {
   meta = b.meta ∙ a.meta;
-  roots = b.roots ∙ a.roots;
   shaped = subst (λ z. AreShaped z k.objects) a.meta b.shaped;
   class = λ p. b.class p ∙ a.class p;
   exists = λ p. b.exists p ∙ a.exists p;
@@ -144,7 +143,7 @@ without_both m n k G H a b = record {
 
 -- nothing is gone
 none_without : (m : Contents) → AreShaped m.meta m.objects → IsWithout m m (λ p g q. ⊥)
-none_without m shaped = record { meta = refl; roots = refl; shaped = shaped; class = λ p. refl; exists = λ p. refl; has = λ p g. refl; fewer = λ p g v h. h; gone = λ p g q h t. t; kept = λ p g q h t. h; shorter = λ p g. omega arith; differ = λ p g h. h; attributes = λ p g h. refl }
+none_without m shaped = record { meta = refl; shaped = shaped; class = λ p. refl; exists = λ p. refl; has = λ p g. refl; fewer = λ p g v h. h; gone = λ p g q h t. t; kept = λ p g q h t. h; shorter = λ p g. omega arith; differ = λ p g h. h; attributes = λ p g h. refl }
 
 -- both ends of a pair
 abbrev pub IsEnd : Parts → ObjId → FeatId → ObjId → ObjId → FeatId → ObjId → Type 0
@@ -156,3 +155,35 @@ ends_go_in_pairs meta valid o q f x y g h e (inr t) =
     let back = opposite_back meta valid f t.0 t.1 in
     let same : h ≡ f = same_Some h f (sym e ∙ ap (opposite meta) t.2.1 ∙ back) in
     inl (t.2.2, same, t.2.0)
+
+-- the same by other words
+pub gone_as : (m n : Contents) (G H : ObjId → FeatId → ObjId → Type 0) → ((p : ObjId) (g : FeatId) (q : ObjId) → G p g q → H p g q) → ((p : ObjId) (g : FeatId) (q : ObjId) → H p g q → G p g q) → IsWithout m n G → IsWithout m n H
+gone_as m n G H to from x = record {
+  meta = x.meta; shaped = x.shaped; class = x.class; exists = x.exists; has = x.has; fewer = x.fewer;
+  gone = λ p g q h t. x.gone p g q h (from p g q t);
+  kept = λ p g q h t. x.kept p g q h (λ y. t (to p g q y));
+  shorter = x.shorter; differ = x.differ; attributes = x.attributes;
+}
+
+pub ends_without : (m : Contents) → IsMetamodel m.meta → AreShaped m.meta m.objects → (o : ObjId) (f : FeatId) (q : ObjId) → refers m.meta f ≡ true → IsWithout m (cut_back o f q (cut o f q m)) (IsEnd m.meta o f q)
+unfolding cut_back
+ends_without m valid shaped o f q r = on (opposite m.meta f) refl
+  where
+    n : Contents
+    n = cut o f q m
+
+    first : IsWithout m (cut o f q m) (IsThis o f q)
+    first = cut_without m shaped o f q r
+
+    back : (x : Option FeatId) → opposite m.meta f ≡ x → option_map_or (λ g. cut q g o (cut o f q m)) (opposite (cut o f q m).meta f) (cut o f q m) ≡ option_map_or (λ g. cut q g o (cut o f q m)) x (cut o f q m)
+    back x e = ap (λ y. option_map_or (λ g. cut q g o (cut o f q m)) y (cut o f q m)) (ap (λ z. opposite z f) first.meta ∙ e)
+
+    on : (x : Option FeatId) → opposite m.meta f ≡ x → IsWithout m (option_map_or (λ g. cut q g o (cut o f q m)) (opposite (cut o f q m).meta f) (cut o f q m)) (IsEnd m.meta o f q)
+    on None e = subst (λ k. IsWithout m k (IsEnd m.meta o f q)) (sym (back None e))
+        (gone_as m (cut o f q m) (IsThis o f q) (IsEnd m.meta o f q) (λ p g y t. inl t) (λ p g y t. ⊎_elim (λ a. a) (λ b. absurd (none-some b.0 (sym e ∙ b.1))) t) first)
+    on (Some g) e = subst (λ k. IsWithout m k (IsEnd m.meta o f q)) (sym (back (Some g) e))
+        (gone_as m (cut q g o (cut o f q m)) (λ p h y. IsThis o f q p h y ⊎ IsThis q g o p h y) (IsEnd m.meta o f q)
+          (λ p h y t. ⊎_elim (λ a. inl a) (λ b. inr (g, e, b)) t)
+          (λ p h y t. ⊎_elim (λ a. inl a) (λ b. inr (b.2.0, b.2.1 ∙ same_Some b.0 g (sym b.1 ∙ e), b.2.2)) t)
+          (without_both m (cut o f q m) (cut q g o (cut o f q m)) (IsThis o f q) (IsThis q g o) first
+            (cut_without (cut o f q m) (subst (λ z. AreShaped z (cut o f q m).objects) (sym first.meta) first.shaped) q g o (ap (λ z. refers z g) first.meta ∙ opposite_refers m.meta valid f g e))))
