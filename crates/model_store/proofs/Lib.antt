@@ -12,3 +12,4 @@ pub mod AttributeWrites
 pub mod Removing
 pub mod Wired
 pub mod ListedRoots
+pub mod Unlinked
