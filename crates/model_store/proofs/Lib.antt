@@ -13,3 +13,4 @@ pub mod Removing
 pub mod Wired
 pub mod ListedRoots
 pub mod Unlinked
+pub mod Linked

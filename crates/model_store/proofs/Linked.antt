@@ -1,0 +1,125 @@
+-- A pair appended leaves a model, where there is room for it.
+use Rattle.std.proofs.Common.{◌≡◌, ◌≢◌, ℕ, zero, suc, ◌+◌, ◌<◌, ◌≤◌, ◌⊎◌, inl, inr, List, [], ◌∷◌, ◌++◌, length, refl, sym, ap, ◌∙◌, subst, ⊎_elim, arith, Option, Some, None}
+use Rattle.std.specs.Prelude.{◌==◌, Bool, true, false, slice_index_or, slice_get, option_map, is_some, if◌then◌else◌, Contains, All, IsSome, IfSome}
+use Rattle.std.specs.Option.{option_map_or, IsSomeAnd}
+use Rattle.std.proofs.lemmas.Bool.{cases_Bool, cases_eq, true≢false}
+use Rattle.std.proofs.lemmas.List.{get_or_default, length-append}
+use Rattle.std.proofs.lemmas.List.Elements.{Contains-append_left, Contains-append_right, Contains-append_cases}
+use Rattle.std.proofs.lemmas.List.Quantifiers.{all_pairs_push}
+use Rattle.std.proofs.lemmas.Option.{none-some, same_Some}
+use Rattle.atl_base.specs.declared.numbers.FeatId.{FeatId}
+use Rattle.atl_base.specs.declared.numbers.ObjId.{ObjId}
+use Rattle.ecore_meta.specs.declared.parts.Feature.{Feature}
+use Rattle.ecore_meta.specs.declared.parts.Parts.{Parts}
+use Rattle.ecore_meta.specs.Valid.{AllDiffer, IsMetamodel}
+use Rattle.model_store.specs.declared.parts.Cellv.{Cellv}
+use Rattle.model_store.specs.declared.parts.Cellv.TheVariants.{Obj}
+use Rattle.model_store.specs.declared.parts.Object.{Object}
+use Rattle.model_store.specs.Contents.{Contents, object_at, class_of, slot, refers, is_many, contains, opposite, is_contained_by, refusal, holds, AreShaped}
+use Rattle.model_store.specs.Valid.{IsModel, IsConcrete, IsOfKind, IsOfType, Fits, HasSlot, Refers}
+use Rattle.model_store.specs.Writes.{join, join_back, take_ends_in, link, taken_in, without_root}
+use Rattle.model_store.proofs.Created.{all_contained}
+use Rattle.model_store.proofs.ListedRoots.{left_root, root_left, left_differ}
+use Rattle.model_store.proofs.Removing.{IsChanged, IsThis, join_changes}
+use Rattle.model_store.proofs.Slots.{same_object, same_feature}
+use Rattle.model_store.proofs.Thinned.{Contains_none, Contains_cases, Contains_first, held, holding, not_held}
+use Rattle.model_store.proofs.Wired.{IsWired, wired, GoInPairs, IsEnd, ends_go_in_pairs, opposite_back, opposite_refers, still_of_type}
+use Rattle.model_store.proofs.Unlinked.{IsFree, AreRoots, are_roots, model_of, one_contains, contained_end, other_roots}
+
+-- References are new, and nothing else is changed.
+pub record IsWith (m n : Contents) (New : ObjId → FeatId → ObjId → Type 0) : Type 0 where
+  pub meta : n.meta ≡ m.meta
+  pub shaped : AreShaped m.meta n.objects
+  pub class : (p : ObjId) → class_of n p ≡ class_of m p
+  pub exists : (p : ObjId) → is_some (object_at n.objects p) ≡ is_some (object_at m.objects p)
+  pub has : (p : ObjId) (g : FeatId) → refusal n p g ≡ refusal m p g
+  pub more : (p : ObjId) (g : FeatId) (v : Cellv) → Contains (slot m p g) v → Contains (slot n p g) v
+  pub new : (p : ObjId) (g : FeatId) (q : ObjId) → New p g q → Refers n p g q
+  pub known : (p : ObjId) (g : FeatId) (v : Cellv) → Contains (slot n p g) v → Contains (slot m p g) v ⊎ ((q : ObjId) × (Obj q ≡ v) × New p g q)
+  pub single : (p : ObjId) (g : FeatId) → is_many m.meta g ≡ false → length (slot m p g) ≤ 1 → length (slot n p g) ≤ 1
+  pub differ : (p : ObjId) (g : FeatId) → AllDiffer (slot m p g) → AllDiffer (slot n p g)
+  pub attributes : (p : ObjId) (g : FeatId) → refers m.meta g ≡ false → slot n p g ≡ slot m p g
+
+-- there is room for one more
+abbrev pub HasRoom : Contents → ObjId → FeatId → Type 0
+HasRoom m x h = (is_many m.meta h ≡ true) ⊎ (slot m x h ≡ [])
+
+join_with : (m : Contents) → AreShaped m.meta m.objects → (x : ObjId) (h : FeatId) (y : ObjId) → HasSlot m x h → refers m.meta h ≡ true → holds y (slot m x h) ≡ false → HasRoom m x h → IsWith m (join x h y m) (IsThis x h y)
+join_with m shaped x h y has r n room = made (join_changes m shaped x h y has n)
+  where
+    longer : List Cellv
+    longer = slot m x h ++ Obj y ∷ []
+
+    made : IsChanged m (join x h y m) x h (slot m x h ++ Obj y ∷ []) → IsWith m (join x h y m) (IsThis x h y)
+    made c = record {
+      meta = c.meta;
+      shaped = c.shaped;
+      class = c.class;
+      exists = c.exists;
+      has = c.has;
+      more = λ p g v. by (λ p g. Contains (slot m p g) v → Contains (slot (join x h y m) p g) v) (λ k. subst (λ l. Contains l v) (sym c.changed) (Contains-append_left (slot m x h) (Obj y ∷ []) v k)) (λ p g d k. subst (λ l. Contains l v) (sym (c.others p g d)) k) p g;
+      new = λ p g q t. subst (λ z. Refers (join x h y m) z g q) (sym t.0) (subst (λ z. Refers (join x h y m) x z q) (sym t.1) (subst (λ z. Refers (join x h y m) x h z) (sym t.2) (subst (λ l. Contains l (Obj y)) (sym c.changed) (Contains-append_right (slot m x h) (Obj y ∷ []) (Obj y) (Contains_first (Obj y) [])))));
+      known = λ p g v. by (λ p g. Contains (slot (join x h y m) p g) v → Contains (slot m p g) v ⊎ ((q : ObjId) × (Obj q ≡ v) × IsThis x h y p g q))
+          (λ k. ⊎_elim (λ a. inl a) (λ b. ⊎_elim (λ e. inr (y, e, (refl, refl, refl))) (λ z. absurd (Contains_none v z)) (Contains_cases (Obj y) v [] b)) (Contains-append_cases (slot m x h) (Obj y ∷ []) v (subst (λ l. Contains l v) c.changed k)))
+          (λ p g d k. inl (subst (λ l. Contains l v) (c.others p g d) k)) p g;
+      single = by (λ p g. is_many m.meta g ≡ false → length (slot m p g) ≤ 1 → length (slot (join x h y m) p g) ≤ 1)
+          (λ s k. ⊎_elim (λ t. absurd (true≢false (sym t ∙ s))) (λ e. let z = ap length c.changed in let w = ap length e in omega (arith, z, w, length-append (slot m x h) (Obj y ∷ []))) room)
+          (λ p g d s k. let z = ap length (c.others p g d) in omega (arith, z, k));
+      differ = by (λ p g. AllDiffer (slot m p g) → AllDiffer (slot (join x h y m) p g))
+          (λ k. subst AllDiffer (sym c.changed) (all_pairs_push (λ a b. a ≢ b) (slot m x h) (Obj y) k (λ i d l e. not_held y (slot m x h) n (i, l, sym (get_or_default (slot m x h) i d (Obj y) l) ∙ e))))
+          (λ p g d k. subst AllDiffer (sym (c.others p g d)) k);
+      attributes = λ p g a. c.others p g (λ s t. true≢false (sym r ∙ ap (refers m.meta) (sym t) ∙ a));
+    }
+      where
+        by : (P : ObjId → FeatId → Type 0) → P x h → ((p : ObjId) (g : FeatId) → (p ≡ x → g ≡ h → ⊥) → P p g) → (p : ObjId) (g : FeatId) → P p g
+        by P k o p g = ⊎_elim
+            (λ e. ⊎_elim
+              (λ i. subst (λ q. P q g) (sym (same_object p x e)) (subst (P x) (sym (same_feature g h i)) k))
+              (λ d. o p g (λ _ z. d (ap (λ z. z.0) z)))
+              (cases_eq g.0 h.0))
+            (λ d. o p g (λ z _. d (ap (λ z. z.0) z)))
+            (cases_eq p.0 x.0)
+
+-- one that is there already
+already_with : (m : Contents) → AreShaped m.meta m.objects → (x : ObjId) (h : FeatId) (y : ObjId) → Refers m x h y → IsWith m m (IsThis x h y)
+already_with m shaped x h y r = record {
+  meta = refl; shaped = shaped; class = λ p. refl; exists = λ p. refl; has = λ p g. refl; more = λ p g v k. k;
+  new = λ p g q t. subst (λ z. Refers m z g q) (sym t.0) (subst (λ z. Refers m x z q) (sym t.1) (subst (λ z. Refers m x h z) (sym t.2) r));
+  known = λ p g v k. inl k; single = λ p g s k. k; differ = λ p g k. k; attributes = λ p g a. refl;
+}
+
+with_both : (m n k : Contents) (G H : ObjId → FeatId → ObjId → Type 0) → IsWith m n G → IsWith n k H → IsWith m k (λ p g q. G p g q ⊎ H p g q)
+with_both m n k G H a b = record {
+  meta = b.meta ∙ a.meta;
+  shaped = subst (λ z. AreShaped z k.objects) a.meta b.shaped;
+  class = λ p. b.class p ∙ a.class p;
+  exists = λ p. b.exists p ∙ a.exists p;
+  has = λ p g. b.has p g ∙ a.has p g;
+  more = λ p g v h. b.more p g v (a.more p g v h);
+  new = λ p g q t. ⊎_elim (λ x. b.more p g (Obj q) (a.new p g q x)) (λ y. b.new p g q y) t;
+  known = λ p g v h. ⊎_elim (λ x. ⊎_elim (λ y. inl y) (λ y. inr (y.0, y.1, inl y.2)) (a.known p g v x)) (λ x. inr (x.0, x.1, inr x.2)) (b.known p g v h);
+  single = λ p g s h. b.single p g (ap (λ z. is_many z g) a.meta ∙ s) (a.single p g s h);
+  differ = λ p g h. b.differ p g (a.differ p g h);
+  attributes = λ p g h. b.attributes p g (ap (λ z. refers z g) a.meta ∙ h) ∙ a.attributes p g h;
+}
+
+new_as : (m n : Contents) (G H : ObjId → FeatId → ObjId → Type 0) → ((p : ObjId) (g : FeatId) (q : ObjId) → G p g q → H p g q) → ((p : ObjId) (g : FeatId) (q : ObjId) → H p g q → G p g q) → IsWith m n G → IsWith m n H
+new_as m n G H to from x = record {
+  meta = x.meta; shaped = x.shaped; class = x.class; exists = x.exists; has = x.has; more = x.more;
+  new = λ p g q t. x.new p g q (from p g q t);
+  known = λ p g v k. ⊎_elim (λ a. inl a) (λ b. inr (b.0, b.1, to p g b.0 b.2)) (x.known p g v k);
+  single = x.single; differ = x.differ; attributes = x.attributes;
+}
+
+-- ## What may be appended
+
+-- The pair fits: the slots are there, are of its types, don't hold it and have room, and what it contains is free.
+pub record MayLink (m : Contents) (o : ObjId) (f : FeatId) (q : ObjId) : Type 0 where
+  pub has : HasSlot m o f
+  pub reference : refers m.meta f ≡ true
+  pub typed : IsOfType m f (Obj q)
+  pub apart : holds q (slot m o f) ≡ false
+  pub room : HasRoom m o f
+  pub back : (g : FeatId) → opposite m.meta f ≡ Some g → HasSlot m q g × IsOfType m g (Obj o) × HasRoom m q g
+  pub content : contains m.meta f ≡ true → IsFree m q
+  pub container : (g : FeatId) → opposite m.meta f ≡ Some g → contains m.meta g ≡ true → IsFree m o
