@@ -15,7 +15,7 @@ use Rattle.ecore_meta.specs.Valid.{AllDiffer, IsMetamodel}
 use Rattle.model_store.specs.declared.parts.Cellv.{Cellv}
 use Rattle.model_store.specs.declared.parts.Cellv.TheVariants.{Obj}
 use Rattle.model_store.specs.declared.parts.Object.{Object}
-use Rattle.model_store.specs.Contents.{Contents, object_at, class_of, slot, refers, is_many, contains, opposite, is_contained_by, refusal, holds, AreShaped}
+use Rattle.model_store.specs.Contents.{Contents, object_at, class_of, slot, refers, is_many, contains, opposite, is_contained_by, refusal, holds, set_slot, AreShaped}
 use Rattle.model_store.specs.Valid.{IsModel, IsConcrete, IsOfKind, IsOfType, Fits, HasSlot, Refers}
 use Rattle.model_store.specs.Writes.{join, join_back, take_ends_in, link, taken_in, without_root}
 use Rattle.model_store.proofs.Created.{all_contained}
@@ -111,6 +111,11 @@ new_as m n G H to from x = record {
   single = x.single; differ = x.differ; attributes = x.attributes;
 }
 
+-- joining what is held changes nothing
+held_joins : (m : Contents) (x : ObjId) (h : FeatId) (y : ObjId) → holds y (slot m x h) ≡ true → join x h y m ≡ m
+unfolding join
+held_joins m x h y e = ap (λ b. if b then m else set_slot m x h (slot m x h ++ Obj y ∷ [])) e
+
 -- ## What may be appended
 
 -- The pair fits: the slots are there, are of its types, don't hold it and have room, and what it contains is free.
@@ -123,3 +128,116 @@ pub record MayLink (m : Contents) (o : ObjId) (f : FeatId) (q : ObjId) : Type 0 
   pub back : (g : FeatId) → opposite m.meta f ≡ Some g → HasSlot m q g × IsOfType m g (Obj o) × HasRoom m q g
   pub content : contains m.meta f ≡ true → IsFree m q
   pub container : (g : FeatId) → opposite m.meta f ≡ Some g → contains m.meta g ≡ true → IsFree m o
+
+module _ (m : Contents) (valid : IsMetamodel m.meta) (model : IsModel m) (o : ObjId) (f : FeatId) (q : ObjId) (may : MayLink m o f q) where
+  abbrev New : ObjId → FeatId → ObjId → Type 0
+  New = IsEnd m.meta o f q
+
+  abbrev joined : Contents
+  joined = join o f q m
+
+  first : IsWith m joined (IsThis o f q)
+  first = join_with m model.shaped o f q may.has may.reference may.apart may.room
+
+  joined_shaped : AreShaped joined.meta joined.objects
+  joined_shaped = subst (λ z. AreShaped z joined.objects) (sym first.meta) first.shaped
+
+  -- the other end
+  back_with : (g : FeatId) → opposite m.meta f ≡ Some g → IsWith joined (join q g o joined) (IsThis q g o)
+  back_with g e = on (holds o (slot joined q g)) refl
+    where
+      -- without the other end, it is not that of the pair itself
+      old_slot : holds o (slot joined q g) ≡ false → slot joined q g ≡ slot m q g
+      old_slot n = (join_changes m model.shaped o f q may.has may.apart).others q g (λ s t. not_held o (slot joined q g) n
+          (subst (λ z. Refers joined q z o) (sym t) (subst (λ z. Refers joined z f o) (sym s) (subst (λ z. Refers joined o f z) s (first.new o f q (refl, refl, refl))))))
+
+      room : holds o (slot joined q g) ≡ false → HasRoom joined q g
+      room n = ⊎_elim (λ t. inl (ap (λ z. is_many z g) first.meta ∙ t)) (λ s. inr (old_slot n ∙ s)) (may.back g e).2
+
+      on : (b : Bool) → holds o (slot joined q g) ≡ b → IsWith joined (join q g o joined) (IsThis q g o)
+      on true h = subst (λ k. IsWith joined k (IsThis q g o)) (sym (held_joins joined q g o h)) (already_with joined joined_shaped q g o (held o (slot joined q g) h))
+      on false h = join_with joined joined_shaped q g o (first.has q g ∙ (may.back g e).0) (ap (λ z. refers z g) first.meta ∙ opposite_refers m.meta valid f g e) h (room h)
+
+  abbrev now : Contents
+  now = join_back o f q joined
+
+  both : IsWith m now New
+  unfolding join_back
+  both = on (opposite m.meta f) refl
+    where
+      back : (x : Option FeatId) → opposite m.meta f ≡ x → option_map_or (λ g. join q g o joined) (opposite joined.meta f) joined ≡ option_map_or (λ g. join q g o joined) x joined
+      back x e = ap (λ y. option_map_or (λ g. join q g o joined) y joined) (ap (λ z. opposite z f) first.meta ∙ e)
+
+      on : (x : Option FeatId) → opposite m.meta f ≡ x → IsWith m (option_map_or (λ g. join q g o joined) (opposite joined.meta f) joined) New
+      on None e = subst (λ k. IsWith m k New) (sym (back None e)) (new_as m joined (IsThis o f q) New (λ p g y t. inl t) (λ p g y t. ⊎_elim (λ a. a) (λ b. absurd (none-some b.0 (sym e ∙ b.1))) t) first)
+      on (Some g) e = subst (λ k. IsWith m k New) (sym (back (Some g) e))
+          (new_as m (join q g o joined) (λ p h y. IsThis o f q p h y ⊎ IsThis q g o p h y) New
+            (λ p h y t. ⊎_elim (λ a. inl a) (λ b. inr (g, e, b)) t)
+            (λ p h y t. ⊎_elim (λ a. inl a) (λ b. inr (b.2.0, b.2.1 ∙ same_Some b.0 g (sym b.1 ∙ e), b.2.2)) t)
+            (with_both m joined (join q g o joined) (IsThis o f q) (IsThis q g o) first (back_with g e)))
+
+  -- ## What is wired
+
+  new_typed : (p : ObjId) (g : FeatId) (y : ObjId) → New p g y → IsOfType m g (Obj y)
+  new_typed p g y (inl t) = subst (λ z. IsOfType m z (Obj y)) (sym t.1) (subst (λ z. IsOfType m f (Obj z)) (sym t.2) may.typed)
+  new_typed p g y (inr t) = subst (λ z. IsOfType m z (Obj y)) (sym t.2.1) (subst (λ z. IsOfType m t.0 (Obj z)) (sym t.2.2) (may.back t.0 t.1).1)
+
+  -- what the pair contains is free
+  new_free : (p : ObjId) (g : FeatId) (y : ObjId) → New p g y → contains m.meta g ≡ true → IsFree m y
+  new_free p g y (inl t) c = subst (IsFree m) (sym t.2) (may.content (ap (contains m.meta) (sym t.1) ∙ c))
+  new_free p g y (inr t) c = subst (IsFree m) (sym t.2.2) (may.container t.0 t.1 (ap (contains m.meta) (sym t.2.1) ∙ c))
+
+  -- and is contained by it once
+  new_once : (p r y : ObjId) (g h : FeatId) → contains m.meta g ≡ true → contains m.meta h ≡ true → New p g y → New r h y → (p ≡ r) × (g ≡ h)
+  new_once p r y g h c d (inl s) (inl t) = (s.0 ∙ sym t.0, s.1 ∙ sym t.1)
+  new_once p r y g h c d (inl s) (inr t) = absurd (one_contains m.meta valid f t.0 t.1 (ap (contains m.meta) (sym s.1) ∙ c) (ap (contains m.meta) (sym t.2.1) ∙ d))
+  new_once p r y g h c d (inr s) (inl t) = absurd (one_contains m.meta valid f s.0 s.1 (ap (contains m.meta) (sym t.1) ∙ d) (ap (contains m.meta) (sym s.2.1) ∙ c))
+  new_once p r y g h c d (inr s) (inr t) = (s.2.0 ∙ sym t.2.0, s.2.1 ∙ same_Some s.0 t.0 (sym s.1 ∙ t.1) ∙ sym t.2.1)
+
+  object_of : (a b : ObjId) → Obj a ≡ Obj b → a ≡ b
+  object_of a b e = ap number e
+    where
+      number : Cellv → ObjId
+      number (Obj q) = q
+      number c = a
+
+  -- a reference is one of before, or of the pair
+  refers_now : (p : ObjId) (g : FeatId) (y : ObjId) → Refers now p g y → Refers m p g y ⊎ New p g y
+  refers_now p g y k = ⊎_elim (λ a. inl a) (λ b. inr (subst (New p g) (object_of b.0 y b.1) b.2)) (both.known p g (Obj y) k)
+
+  still_typed : (g : FeatId) (v : Cellv) → IsOfType m g v → IsOfType (record { meta = m.meta; objects = now.objects; roots = now.roots }) g v
+  still_typed g v t = still_of_type m now.objects now.roots same g v t
+    where
+      same : (p : ObjId) → class_of now p ≡ class_of m p
+      same p = both.class p
+
+  same_now : now ≡ record { meta = m.meta; objects = now.objects; roots = now.roots }
+  same_now = ap (λ z. record { meta = z; objects = now.objects; roots = now.roots }) both.meta
+
+  all_typed : (p : ObjId) (g : FeatId) → Fits m g (slot m p g) → All (IsOfType now g) (slot now p g)
+  all_typed p g h k d l =
+      let v = slice_index_or (slot now p g) k d in
+      subst (λ z. IsOfType z g v) (sym same_now) (still_typed g v (⊎_elim
+        (λ a. all_contained (IsOfType m g) (slot m p g) v h.typed a)
+        (λ b. subst (IsOfType m g) b.1 (new_typed p g b.0 b.2))
+        (both.known p g v (k, l, sym (get_or_default (slot now p g) k d v l)))))
+
+  still_wired : IsWired now
+  still_wired = record {
+    shaped = subst (λ z. AreShaped z now.objects) (sym both.meta) both.shaped;
+    concrete = λ p. subst (λ z. IfSome (class_of now p) (IsConcrete z)) (sym both.meta) (subst (λ c. IfSome c (IsConcrete m.meta)) (sym (both.class p)) (model.concrete p));
+    fits = λ p g h. let old = model.fits p g (sym (both.has p g) ∙ h) in record { typed = all_typed p g old; single = λ s. both.single p g (sym (ap (λ z. is_many z g) both.meta) ∙ s) (old.single (sym (ap (λ z. is_many z g) both.meta) ∙ s)) };
+    defaults = λ p g h r s d e. let r = sym (ap (λ z. refers z g) both.meta) ∙ r in model.defaults p g (sym (both.has p g) ∙ h) r (sym (ap (λ z. is_many z g) both.meta) ∙ s) (subst (λ z. IsSomeAnd (slice_get z.features g.0) (λ feature. IsSome feature.default)) both.meta d) (sym (both.attributes p g r) ∙ e);
+    differ = λ p g r. both.differ p g (model.differ p g (sym (ap (λ z. refers z g) both.meta) ∙ r));
+    opposites = λ p y g h e k. let e = sym (ap (λ z. opposite z g) both.meta) ∙ e in ⊎_elim
+        (λ a. both.more y h (Obj p) (model.opposites p y g h e a))
+        (λ b. both.new y h p (ends_go_in_pairs m.meta valid o q f p y g h e b))
+        (refers_now p g y k);
+    contained_once = λ p r y g h c d j k.
+        let c = sym (ap (λ z. contains z g) both.meta) ∙ c in
+        let d = sym (ap (λ z. contains z h) both.meta) ∙ d in
+        ⊎_elim
+          (λ a. ⊎_elim (λ b. model.contained_once p r y g h c d a b) (λ t. absurd ((new_free r h y t d).none p g c a)) (refers_now r h y k))
+          (λ s. ⊎_elim (λ b. absurd ((new_free p g y s c).none r h d b)) (λ t. new_once p r y g h c d s t) (refers_now r h y k))
+          (refers_now p g y j);
+  }
