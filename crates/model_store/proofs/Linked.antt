@@ -116,6 +116,14 @@ held_joins : (m : Contents) (x : ObjId) (h : FeatId) (y : ObjId) → holds y (sl
 unfolding join
 held_joins m x h y e = ap (λ b. if b then m else set_slot m x h (slot m x h ++ Obj y ∷ [])) e
 
+-- a model whose roots are all but one that is contained, and that one taken out
+taken_model : (n : Contents) (x : ObjId) → IsMetamodel n.meta → IsWired n → ((p : ObjId) → Contains n.roots p → p ≢ x → IsFree n p) → ((p : ObjId) → IsFree n p → Contains n.roots p × (p ≢ x)) → AllDiffer n.roots → IsModel (taken_in x n)
+taken_model n x valid w free root differ = model_of (taken_in x n) valid (other_roots n (without_root x n.roots) w) (record {
+  free = λ p k. let y = left_root x p n.roots k in let z = free p y.0 y.1 in record { exists = z.exists; none = z.none };
+  root = λ p k. let y = root p (record { exists = k.exists; none = k.none }) in root_left x p n.roots y.0 y.1;
+  differ = left_differ x n.roots differ;
+})
+
 -- ## What may be appended
 
 -- The pair fits: the slots are there, are of its types, don't hold it and have room, and what it contains is free.
@@ -241,3 +249,107 @@ module _ (m : Contents) (valid : IsMetamodel m.meta) (model : IsModel m) (o : Ob
           (λ s. ⊎_elim (λ b. absurd ((new_free p g y s c).none r h d b)) (λ t. new_once p r y g h c d s t) (refers_now r h y k))
           (refers_now p g y j);
   }
+
+  -- ## The roots
+
+  joined_roots : joined.roots ≡ m.roots
+  joined_roots = (join_changes m model.shaped o f q may.has may.apart).roots
+
+  back_roots : (g : FeatId) → opposite m.meta f ≡ Some g → (join q g o joined).roots ≡ joined.roots
+  back_roots g e = on (holds o (slot joined q g)) refl
+    where
+      on : (b : Bool) → holds o (slot joined q g) ≡ b → (join q g o joined).roots ≡ joined.roots
+      on true h = ap (λ z. z.roots) (held_joins joined q g o h)
+      on false h = (join_changes joined joined_shaped q g o (first.has q g ∙ (may.back g e).0) h).roots
+
+  same_roots : now.roots ≡ m.roots
+  unfolding join_back
+  same_roots = on (opposite m.meta f) refl
+    where
+      on : (x : Option FeatId) → opposite m.meta f ≡ x → (option_map_or (λ g. join q g o joined) (opposite joined.meta f) joined).roots ≡ m.roots
+      on None e = ap (λ y. (option_map_or (λ g. join q g o joined) y joined).roots) (ap (λ z. opposite z f) first.meta ∙ e) ∙ joined_roots
+      on (Some g) e = ap (λ y. (option_map_or (λ g. join q g o joined) y joined).roots) (ap (λ z. opposite z f) first.meta ∙ e) ∙ back_roots g e ∙ joined_roots
+
+  before : AreRoots m
+  before = are_roots m valid model
+
+  now_valid : IsMetamodel now.meta
+  now_valid = subst IsMetamodel (sym both.meta) valid
+
+  none_twice : AllDiffer now.roots
+  none_twice = subst AllDiffer (sym same_roots) before.differ
+
+  then_contains : (h : FeatId) → contains m.meta h ≡ true → contains now.meta h ≡ true
+  then_contains h c = ap (λ z. contains z h) both.meta ∙ c
+
+  now_contains : (h : FeatId) → contains now.meta h ≡ true → contains m.meta h ≡ true
+  now_contains h c = sym (ap (λ z. contains z h) both.meta) ∙ c
+
+  was_free : (p : ObjId) → IsFree now p → IsFree m p
+  was_free p k = record { exists = sym (both.exists p) ∙ k.exists; none = λ r h c y. k.none r h (then_contains h c) (both.more r h (Obj p) y) }
+
+  still_free : (p : ObjId) → ((r : ObjId) (h : FeatId) → contains m.meta h ≡ true → New r h p → ⊥) → IsFree m p → IsFree now p
+  still_free p n k = record { exists = both.exists p ∙ k.exists; none = λ r h c y. ⊎_elim (λ a. k.none r h (now_contains h c) a) (λ b. n r h (now_contains h c) b) (refers_now r h p y) }
+
+  with_taken : (x r : ObjId) (h : FeatId) → contains m.meta h ≡ true → New r h x → ((p : ObjId) → p ≢ x → (s : ObjId) (k : FeatId) → contains m.meta k ≡ true → New s k p → ⊥) → IsModel (taken_in x now)
+  with_taken x r h c y n = taken_model now x now_valid still_wired
+      (λ p k d. still_free p (n p d) (before.free p (subst (λ l. Contains l p) same_roots k)))
+      (λ p k. (subst (λ l. Contains l p) (sym same_roots) (before.root p (was_free p k)), λ e. k.none r h (then_contains h c) (subst (Refers now r h) (sym e) (both.new r h x y))))
+      none_twice
+
+  linked : (a b : Bool) → contains m.meta f ≡ a → is_contained_by m.meta f ≡ b → IsModel (if a then taken_in q now else (if b then taken_in o now else now))
+  linked true b i j = with_taken q o f i (inl (refl, refl, refl)) apart
+    where
+      apart : (p : ObjId) → p ≢ q → (s : ObjId) (k : FeatId) → contains m.meta k ≡ true → New s k p → ⊥
+      apart p d s k c (inl t) = d t.2
+      apart p d s k c (inr t) = one_contains m.meta valid f t.0 t.1 i (ap (contains m.meta) (sym t.2.1) ∙ c)
+  linked false true i j = with_taken o q e.0 e.2 (inr (e.0, e.1, (refl, refl, refl))) apart
+    where
+      e : (g : FeatId) × (opposite m.meta f ≡ Some g) × (contains m.meta g ≡ true)
+      e = contained_end m.meta f j
+
+      apart : (p : ObjId) → p ≢ o → (s : ObjId) (k : FeatId) → contains m.meta k ≡ true → New s k p → ⊥
+      apart p d s k c (inl t) = true≢false (sym c ∙ ap (contains m.meta) t.1 ∙ i)
+      apart p d s k c (inr t) = d t.2.2
+  linked false false i j = model_of now now_valid still_wired (record {
+    free = λ p k. still_free p (apart p) (before.free p (subst (λ l. Contains l p) same_roots k));
+    root = λ p k. subst (λ l. Contains l p) (sym same_roots) (before.root p (was_free p k));
+    differ = none_twice;
+  })
+    where
+      apart : (p : ObjId) (s : ObjId) (k : FeatId) → contains m.meta k ≡ true → New s k p → ⊥
+      apart p s k c (inl t) = true≢false (sym c ∙ ap (contains m.meta) t.1 ∙ i)
+      apart p s k c (inr t) = true≢false (sym (ap (λ x. option_map_or (contains m.meta) x false) t.1 ∙ ap (contains m.meta) (sym t.2.1) ∙ c) ∙ j)
+
+  taken_by_meta : link o f q m ≡ (if contains m.meta f then taken_in q now else (if is_contained_by m.meta f then taken_in o now else now))
+  unfolding link take_ends_in
+  taken_by_meta = ap (λ b. if b then taken_in q now else (if is_contained_by now.meta f then taken_in o now else now)) (ap (λ z. contains z f) both.meta)
+      ∙ ap (λ b. if contains m.meta f then taken_in q now else (if b then taken_in o now else now)) (ap (λ z. is_contained_by z f) both.meta)
+
+  pub link_is_model : IsModel (link o f q m)
+  link_is_model = subst IsModel (sym taken_by_meta) (linked (contains m.meta f) (is_contained_by m.meta f) refl refl)
+
+  -- the classes stay
+  pub link_class : (p : ObjId) → class_of (link o f q m) p ≡ class_of m p
+  link_class p = ap (λ z. class_of z p) taken_by_meta ∙ on (contains m.meta f) (is_contained_by m.meta f)
+    where
+      on : (a b : Bool) → class_of (if a then taken_in q now else (if b then taken_in o now else now)) p ≡ class_of m p
+      on true b = both.class p
+      on false true = both.class p
+      on false false = both.class p
+
+  pub link_meta : (link o f q m).meta ≡ m.meta
+  link_meta = ap (λ z. z.meta) taken_by_meta ∙ on (contains m.meta f) (is_contained_by m.meta f)
+    where
+      on : (a b : Bool) → (if a then taken_in q now else (if b then taken_in o now else now)).meta ≡ m.meta
+      on true b = both.meta
+      on false true = both.meta
+      on false false = both.meta
+
+  pub link_has : (p : ObjId) (g : FeatId) → refusal (link o f q m) p g ≡ refusal m p g
+  link_has p g = ap (λ z. refusal z p g) taken_by_meta ∙ on (contains m.meta f) (is_contained_by m.meta f)
+    where
+      on : (a b : Bool) → refusal (if a then taken_in q now else (if b then taken_in o now else now)) p g ≡ refusal m p g
+      on true b = both.has p g
+      on false true = both.has p g
+      on false false = both.has p g
