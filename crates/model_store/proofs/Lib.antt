@@ -14,3 +14,4 @@ pub mod Wired
 pub mod ListedRoots
 pub mod Unlinked
 pub mod Linked
+pub mod Added
