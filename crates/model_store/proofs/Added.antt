@@ -108,3 +108,121 @@ less_less m n k a b = record { model = b.model; meta = b.meta ∙ a.meta; class 
 pub unlink_less : (m : Contents) → IsMetamodel m.meta → IsModel m → (o : ObjId) (f : FeatId) (q : ObjId) → refers m.meta f ≡ true → Refers m o f q → IsLess m (unlink o f q m)
 unlink_less m valid model o f q r h = let x = unlink_without m valid model o f q r h in
     record { model = unlink_is_model m valid model o f q r h; meta = x.meta; class = x.class; exists = x.exists; has = x.has; fewer = λ p g y k. x.fewer p g (Obj y) k }
+
+-- ## What makes way
+
+-- a reference gives up the one object that it holds
+record GivesUp (m n : Contents) (o : ObjId) (f : FeatId) : Type 0 where
+  pub less : IsLess m n
+  pub none : is_many m.meta f ≡ false → (q : ObjId) → Refers n o f q → ⊥
+
+at_most_one : (m : Contents) → IsModel m → (o : ObjId) (f : FeatId) (q : ObjId) → is_many m.meta f ≡ false → Refers m o f q → length (slot m o f) ≤ 1
+at_most_one m model o f q s h = (model.fits o f (slot_of m o f (Obj q) h)).single s
+
+same_value : (a b : ObjId) → Obj a ≡ Obj b → a ≡ b
+same_value a b e = ap number e
+  where
+    number : Cellv → ObjId
+    number (Obj q) = q
+    number c = a
+
+gives_up : (m : Contents) → IsMetamodel m.meta → IsModel m → (o : ObjId) (f : FeatId) → refers m.meta f ≡ true → GivesUp m (give_up o f m) o f
+unfolding give_up
+gives_up m valid model o f r = on (is_many m.meta f) refl (first_object (slot m o f)) refl
+  where
+    on : (b : Bool) → is_many m.meta f ≡ b → (x : Option ObjId) → first_object (slot m o f) ≡ x → GivesUp m (if b then m else option_map_or (λ q. unlink o f q m) x m) o f
+    on true e x i = record { less = same_less m model; none = λ s q h. true≢false (sym e ∙ s) }
+    on false e None i = record { less = same_less m model; none = λ s q h. none_first (slot m o f) q i h }
+    on false e (Some q) i =
+        let h = first_held (slot m o f) q i in
+        record {
+          less = unlink_less m valid model o f q r h;
+          none = λ s y k. let old = (unlink_less m valid model o f q r h).fewer o f y k in
+            let same = same_value y q (one_only (slot m o f) (Obj y) (Obj q) (at_most_one m model o f q s h) old h) in
+            (unlink_without m valid model o f q r h).gone o f y k (inl (refl, refl, same));
+        }
+
+-- and the other end likewise
+record GivesBack (m n : Contents) (f : FeatId) (p : ObjId) : Type 0 where
+  pub less : IsLess m n
+  pub none : (g : FeatId) → opposite m.meta f ≡ Some g → is_many m.meta g ≡ false → (q : ObjId) → Refers n p g q → ⊥
+
+gives_back : (m : Contents) → IsMetamodel m.meta → IsModel m → (f : FeatId) (p : ObjId) → refers m.meta f ≡ true → GivesBack m (give_up_back f p m) f p
+unfolding give_up_back
+gives_back m valid model f p r = on (opposite m.meta f) refl
+  where
+    at : (g : FeatId) → opposite m.meta f ≡ Some g → (b : Bool) → is_many m.meta g ≡ b → (x : Option ObjId) → first_object (slot m p g) ≡ x → GivesBack m (if b then m else option_map_or (λ r. unlink r f p m) x m) f p
+    at g e true i x j = record { less = same_less m model; none = λ h k s q y. true≢false (sym i ∙ ap (is_many m.meta) (same_Some g h (sym e ∙ k)) ∙ s) }
+    at g e false i None j = record { less = same_less m model; none = λ h k s q y. none_first (slot m p g) q j (subst (λ z. Refers m p z q) (sym (same_Some g h (sym e ∙ k))) y) }
+    at g e false i (Some q) j =
+        let h = first_held (slot m p g) q j in
+        let back : Refers m q f p = model.opposites p q g f (opposite_back m.meta valid f g e) h in
+        record {
+          less = unlink_less m valid model q f p r back;
+          none = λ h' k s y z.
+            let same = same_Some g h' (sym e ∙ k) in
+            let now : Refers (unlink q f p m) p g y = subst (λ w. Refers (unlink q f p m) p w y) (sym same) z in
+            let old = (unlink_less m valid model q f p r back).fewer p g y now in
+            let one = same_value y q (one_only (slot m p g) (Obj y) (Obj q) (at_most_one m model p g q i h) old h) in
+            (unlink_without m valid model q f p r back).gone p g y now (inr (g, e, (refl, refl, one)));
+        }
+
+    on : (x : Option FeatId) → opposite m.meta f ≡ x → GivesBack m (option_map_or (λ g. if is_many m.meta g then m else option_map_or (λ r. unlink r f p m) (first_object (slot m p g)) m) x m) f p
+    on None e = record { less = same_less m model; none = λ g k s q h. none-some g (sym e ∙ k) }
+    on (Some g) e = at g e (is_many m.meta g) refl (first_object (slot m p g)) refl
+
+-- a containment is a reference
+contains_refers : (meta : Parts) (f : FeatId) → contains meta f ≡ true → refers meta f ≡ true
+contains_refers meta f h = on (slice_get meta.features f.0) h
+  where
+    kind : (k : FeatKind) → is_containment k ≡ true → is_reference k ≡ true
+    kind (Kind.Refer class inside back) h = refl
+    kind Kind.Str h = h
+    kind Kind.Int h = h
+    kind Kind.Truth h = h
+    kind (Kind.Enum e) h = h
+    kind Kind.Opaque h = h
+
+    on : (x : Option Feature) → option_map_or (λ feature. is_containment feature.kind) x false ≡ true → option_map_or (λ feature. is_reference feature.kind) x false ≡ true
+    on None h = h
+    on (Some feature) h = kind feature.kind h
+
+-- an object that leaves its container is free
+record Leaves (m n : Contents) (p : ObjId) : Type 0 where
+  pub less : IsLess m n
+  pub free : IsFree n p
+
+leaves : (m : Contents) → IsMetamodel m.meta → IsModel m → (p : ObjId) → IsSome (object_at m.objects p) → Leaves m (leave p m) p
+unfolding leave
+leaves m valid model p there = on (holder m p) refl
+  where
+    on : (x : Option (ObjId × FeatId)) → holder m p ≡ x → Leaves m (option_map_or (λ at. unlink at.0 at.1 p m) x m) p
+    on None e = record { less = same_less m model; free = record { exists = there; none = uncontained m p (ap (option_map (λ at. at.0)) e) } }
+    on (Some y) e =
+        let h = holder_refers m (seen_once m.meta valid) model.shaped p y.0 y.1 e in
+        let r = contains_refers m.meta y.1 h.0 in
+        let l = unlink_less m valid model y.0 y.1 p r h.1 in
+        record {
+          less = l;
+          free = record {
+            exists = l.exists p ∙ there;
+            none = λ s k c z.
+              let d = sym (ap (λ w. contains w k) l.meta) ∙ c in
+              let same = model.contained_once y.0 s p y.1 k h.0 d h.1 (l.fewer s k p z) in
+              (unlink_without m valid model y.0 y.1 p r h.1).gone s k p z (inl (sym same.0, sym same.1, refl));
+          };
+        }
+
+record MakesWay (m n : Contents) (o : ObjId) (f : FeatId) (p : ObjId) : Type 0 where
+  pub less : IsLess m n
+  pub content : contains m.meta f ≡ true → IsFree n p
+  pub container : contains m.meta f ≡ false → is_contained_by m.meta f ≡ true → IsFree n o
+
+makes_way : (m : Contents) → IsMetamodel m.meta → IsModel m → (o : ObjId) (f : FeatId) (p : ObjId) → IsSome (object_at m.objects o) → IsSome (object_at m.objects p) → MakesWay m (make_way o f p m) o f p
+unfolding make_way
+makes_way m valid model o f p ho hp = on (contains m.meta f) refl (is_contained_by m.meta f) refl
+  where
+    on : (a : Bool) → contains m.meta f ≡ a → (b : Bool) → is_contained_by m.meta f ≡ b → MakesWay m (if a then leave p m else (if b then leave o m else m)) o f p
+    on true i b j = let l = leaves m valid model p hp in record { less = l.less; content = λ c. l.free; container = λ c d. absurd (true≢false (sym i ∙ c)) }
+    on false i true j = let l = leaves m valid model o ho in record { less = l.less; content = λ c. absurd (true≢false (sym c ∙ i)); container = λ c d. l.free }
+    on false i false j = record { less = same_less m model; content = λ c. absurd (true≢false (sym c ∙ i)); container = λ c d. absurd (true≢false (sym d ∙ j)) }
