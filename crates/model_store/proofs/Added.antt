@@ -1,8 +1,9 @@
 -- Adding an object to a reference leaves a model.
 use Rattle.std.proofs.Common.{◌≡◌, ◌≢◌, ℕ, zero, suc, ◌+◌, ◌<◌, ◌≤◌, ◌⊎◌, inl, inr, List, [], ◌∷◌, ◌++◌, length, refl, sym, ap, ◌∙◌, subst, ⊎_elim, arith, Option, Some, None}
-use Rattle.std.specs.Prelude.{◌==◌, Bool, true, false, slice_index_or, slice_get, option_map, is_some, if◌then◌else◌, Contains, All, IsSome}
+use Rattle.std.specs.Prelude.{◌==◌, ◌↔◌, Bool, true, false, slice_index_or, slice_get, option_map, is_some, if◌then◌else◌, Contains, All, IsSome}
 use Rattle.std.specs.Option.{option_map_or, IsSomeAnd}
-use Rattle.std.proofs.lemmas.Bool.{cases_Bool, true≢false, false_from_ne_true}
+use Rattle.std.proofs.lemmas.Bool.{cases_Bool, eqb-true, true≢false, false_from_ne_true}
+use Rattle.std.proofs.lemmas.List.Quantifiers.{position-Some}
 use Rattle.std.proofs.lemmas.List.{get_or_default}
 use Rattle.std.proofs.lemmas.Option.{none-some, same_Some}
 use Rattle.atl_base.specs.declared.numbers.FeatId.{FeatId}
@@ -11,7 +12,11 @@ use Rattle.ecore_meta.specs.declared.parts.Feature.{Feature}
 use Rattle.ecore_meta.specs.declared.parts.FeatKind.{FeatKind}
 use Rattle.ecore_meta.specs.declared.parts.FeatKind.TheVariants as Kind
 use Rattle.ecore_meta.specs.declared.parts.Parts.{Parts}
-use Rattle.ecore_meta.specs.Valid.{IsMetamodel, is_reference, is_containment}
+use Rattle.atl_base.specs.declared.numbers.ClassId.{ClassId}
+use Rattle.ecore_meta.specs.Inheritance.{Conforms, features, own_of}
+use Rattle.ecore_meta.specs.Valid.{IsMetamodel, is_reference, is_containment, class_of as kind_class}
+use Rattle.ecore_meta.proofs.FeatureLaws.{seen-is}
+use Rattle.model_store.specs.Order.{IsOf}
 use Rattle.model_store.specs.declared.parts.Cellv.{Cellv}
 use Rattle.model_store.specs.declared.parts.Cellv.TheVariants.{Words, Int, Truth, Literal, Obj}
 use Rattle.model_store.specs.declared.parts.Object.{Object}
@@ -20,12 +25,13 @@ use Rattle.model_store.specs.Valid.{IsModel, IsOfKind, IsOfType, Fits, HasSlot, 
 use Rattle.model_store.specs.Writes.{unlink, give_up, give_up_back, leave, make_way, link, add}
 use Rattle.model_store.proofs.Created.{all_contained, slot_of, referred_to}
 use Rattle.model_store.proofs.CreatedModel.{seen_once}
-use Rattle.model_store.proofs.Holding.{holder_refers, uncontained}
+use Rattle.model_store.proofs.Holding.{holder_refers, uncontained, place_is}
+use Rattle.model_store.proofs.Slots.{at_of, has_slot, same_feature}
 use Rattle.model_store.proofs.Linked.{MayLink, HasRoom, link_is_model, link_class, link_meta, link_has}
 use Rattle.model_store.proofs.Removing.{IsWithout, IsThis}
 use Rattle.model_store.proofs.Thinned.{Contains_none, Contains_first, Contains_later, Contains_cases, held, holding, not_held}
 use Rattle.model_store.proofs.Unlinked.{IsFree, unlink_is_model, unlink_without, one_contains}
-use Rattle.model_store.proofs.Wired.{IsEnd, opposite_back, opposite_refers, still_of_type}
+use Rattle.model_store.proofs.Wired.{IsEnd, back_of, opposite_back, opposite_refers, still_of_type}
 
 -- ## Slots of references
 
@@ -226,3 +232,56 @@ makes_way m valid model o f p ho hp = on (contains m.meta f) refl (is_contained_
     on true i b j = let l = leaves m valid model p hp in record { less = l.less; content = λ c. l.free; container = λ c d. absurd (true≢false (sym i ∙ c)) }
     on false i true j = let l = leaves m valid model o ho in record { less = l.less; content = λ c. absurd (true≢false (sym c ∙ i)); container = λ c d. l.free }
     on false i false j = record { less = same_less m model; content = λ c. absurd (true≢false (sym c ∙ i)); container = λ c d. absurd (true≢false (sym d ∙ j)) }
+
+-- ## The other end
+
+module _ (m : Contents) (valid : IsMetamodel m.meta) (model : IsModel m) where
+  seen : (class : ClassId) (f : FeatId) → class.0 < length m.meta.classes → Contains (features m.meta.classes class) f ↔ ((d : ClassId) × Conforms m.meta.classes class d × Contains (own_of m.meta.classes d) f)
+  seen class f h = seen-is m.meta.classes valid.acyclic valid.places.supers class f h
+
+  -- an object of a feature's owner has the feature
+  has_own : (p : ObjId) (g : FeatId) (other : Feature) → slice_get m.meta.features g.0 ≡ Some other → IsOf m other.owner p → HasSlot m p g
+  has_own p g other e h = on (object_at m.objects p) refl h
+    where
+      declared : Contains (own_of m.meta.classes other.owner) g
+      declared = (valid.owners other.owner g).1 (ap (option_map (λ feature. feature.owner)) e)
+
+      on : (x : Option Object) → object_at m.objects p ≡ x → IsSomeAnd (option_map (λ object. object.class) x) (λ own. Conforms m.meta.classes own other.owner) → HasSlot m p g
+      on None i h = absurd h
+      on (Some object) i h =
+          let within = (model.shaped p.0 object i).class_within in
+          let c = (seen object.class g within).1 (other.owner, h, declared) in
+          has_slot m p g (record { object = object; there = i; place = c.0; found = place_is m.meta object.class (seen_once m.meta valid object.class within) c.0 g c.1 c.2 })
+
+  -- and what has a feature is of its owner
+  is_of_owner : (o : ObjId) (f : FeatId) (feature : Feature) → slice_get m.meta.features f.0 ≡ Some feature → HasSlot m o f → IsOf m feature.owner o
+  is_of_owner o f feature e h =
+      let a = at_of m o f h in
+      let x = position-Some (λ g. g.0 == f.0) (features m.meta.classes a.object.class) a.place f a.found in
+      let is = same_feature (slice_index_or (features m.meta.classes a.object.class) a.place f) f (eqb-true _ f.0 x.1) in
+      let s = (seen a.object.class f (model.shaped o.0 a.object a.there).class_within).0 (a.place, x.0, is) in
+      let owner = same_Some feature.owner s.0 (sym (ap (option_map (λ feature. feature.owner)) e) ∙ (valid.owners s.0 f).0 s.2) in
+      subst (λ c. IsSomeAnd (option_map (λ object. object.class) c) (λ own. Conforms m.meta.classes own feature.owner)) (sym a.there) (subst (Conforms m.meta.classes a.object.class) (sym owner) s.1)
+
+  class_kind : (kind : FeatKind) (c : ClassId) (q : ObjId) → kind_class kind ≡ Some c → IsOfKind m kind (Obj q) → IsOf m c q
+  class_kind (Kind.Refer d inside back) c q e h = subst (λ z. IsOf m z q) (same_Some d c e) h
+  class_kind Kind.Str c q e h = absurd h
+  class_kind Kind.Int c q e h = absurd h
+  class_kind Kind.Truth c q e h = absurd h
+  class_kind (Kind.Enum i) c q e h = absurd h
+  class_kind Kind.Opaque c q e h = absurd h
+
+  kind_class_of : (kind : FeatKind) (c : ClassId) (q : ObjId) → kind_class kind ≡ Some c → IsOf m c q → IsOfKind m kind (Obj q)
+  kind_class_of (Kind.Refer d inside back) c q e h = subst (λ z. IsOf m z q) (sym (same_Some d c e)) h
+  kind_class_of Kind.Str c q e h = absurd (none-some c e)
+  kind_class_of Kind.Int c q e h = absurd (none-some c e)
+  kind_class_of Kind.Truth c q e h = absurd (none-some c e)
+  kind_class_of (Kind.Enum i) c q e h = absurd (none-some c e)
+  kind_class_of Kind.Opaque c q e h = absurd (none-some c e)
+
+  other_end : (o : ObjId) (f : FeatId) (q : ObjId) → HasSlot m o f → IsOfType m f (Obj q) → (g : FeatId) → opposite m.meta f ≡ Some g → HasSlot m q g × IsOfType m g (Obj o)
+  other_end o f q has typed g e =
+      let b = back_of m.meta valid f g e in
+      let kind = subst (λ x. IsSomeAnd x (λ feature. IsOfKind m feature.kind (Obj q))) b.here typed in
+      (has_own q g b.other b.there (class_kind b.feature.kind b.other.owner q b.fit.there kind),
+       subst (λ x. IsSomeAnd x (λ feature. IsOfKind m feature.kind (Obj o))) (sym b.there) (kind_class_of b.other.kind b.feature.owner o b.fit.back (is_of_owner o f b.feature b.here has)))

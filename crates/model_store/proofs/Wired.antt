@@ -42,12 +42,16 @@ wired m h = record { shaped = h.shaped; concrete = h.concrete; fits = h.fits; de
 
 module _ (meta : Parts) (valid : IsMetamodel meta) (f g : FeatId) where
   -- the other feature names this one back
-  record IsBack : Type 0 where
+  pub record IsBack : Type 0 where
+    pub feature : Feature
+    pub here : slice_get meta.features f.0 ≡ Some feature
+    pub names : opposite_of feature.kind ≡ Some g
     pub other : Feature
     pub there : slice_get meta.features g.0 ≡ Some other
     pub back : opposite_of other.kind ≡ Some f
+    pub fit : AreOpposite f feature other
 
-  back_of : opposite meta f ≡ Some g → IsBack
+  pub back_of : opposite meta f ≡ Some g → IsBack
   back_of e = by_feature (slice_get meta.features f.0) refl e
     where
       -- the number of an opposite is a feature's
@@ -60,7 +64,7 @@ module _ (meta : Parts) (valid : IsMetamodel meta) (f g : FeatId) where
       by_other feature there e None i =
           let l = lost feature.kind e (subst (λ z. IsKindWithin meta z.kind) (get_or_from_slice_get meta.features f.0 feature feature there) (valid.places.kinds f.0 feature (slice_get_within meta.features f.0 feature there))) in
           absurd (none-some (slice_index_or meta.features g.0 feature) (sym i ∙ slice_get-get_or meta.features g.0 feature l))
-      by_other feature there e (Some other) i = record { other = other; there = i; back = (valid.opposites f g feature other there e i).returned }
+      by_other feature there e (Some other) i = let x = valid.opposites f g feature other there e i in record { feature = feature; here = there; names = e; other = other; there = i; back = x.returned; fit = x }
 
       by_feature : (x : Option Feature) → slice_get meta.features f.0 ≡ x → option_map_or (λ feature. opposite_of feature.kind) x None ≡ Some g → IsBack
       by_feature None there e = absurd (none-some g e)
