@@ -56,7 +56,7 @@ object_of_type m f v r h = on (slice_get m.meta.features f.0) r h
     on (Some feature) r h = object_value m feature.kind v r h
 
 -- a reference that refers to nothing is empty
-empty_slot : (m : Contents) → IsModel m → (o : ObjId) (f : FeatId) → refers m.meta f ≡ true → ((q : ObjId) → Refers m o f q → ⊥) → slot m o f ≡ []
+pub empty_slot : (m : Contents) → IsModel m → (o : ObjId) (f : FeatId) → refers m.meta f ≡ true → ((q : ObjId) → Refers m o f q → ⊥) → slot m o f ≡ []
 empty_slot m model o f r none = on (slot m o f) refl
   where
     on : (cells : List Cellv) → slot m o f ≡ cells → cells ≡ []
@@ -118,7 +118,7 @@ unlink_less m valid model o f q r h = let x = unlink_without m valid model o f q
 -- ## What makes way
 
 -- a reference gives up the one object that it holds
-record GivesUp (m n : Contents) (o : ObjId) (f : FeatId) : Type 0 where
+pub record GivesUp (m n : Contents) (o : ObjId) (f : FeatId) : Type 0 where
   pub less : IsLess m n
   pub none : is_many m.meta f ≡ false → (q : ObjId) → Refers n o f q → ⊥
 
@@ -132,7 +132,7 @@ same_value a b e = ap number e
     number (Obj q) = q
     number c = a
 
-gives_up : (m : Contents) → IsMetamodel m.meta → IsModel m → (o : ObjId) (f : FeatId) → refers m.meta f ≡ true → GivesUp m (give_up o f m) o f
+pub gives_up : (m : Contents) → IsMetamodel m.meta → IsModel m → (o : ObjId) (f : FeatId) → refers m.meta f ≡ true → GivesUp m (give_up o f m) o f
 unfolding give_up
 gives_up m valid model o f r = on (is_many m.meta f) refl (first_object (slot m o f)) refl
   where
@@ -149,11 +149,11 @@ gives_up m valid model o f r = on (is_many m.meta f) refl (first_object (slot m 
         }
 
 -- and the other end likewise
-record GivesBack (m n : Contents) (f : FeatId) (p : ObjId) : Type 0 where
+pub record GivesBack (m n : Contents) (f : FeatId) (p : ObjId) : Type 0 where
   pub less : IsLess m n
   pub none : (g : FeatId) → opposite m.meta f ≡ Some g → is_many m.meta g ≡ false → (q : ObjId) → Refers n p g q → ⊥
 
-gives_back : (m : Contents) → IsMetamodel m.meta → IsModel m → (f : FeatId) (p : ObjId) → refers m.meta f ≡ true → GivesBack m (give_up_back f p m) f p
+pub gives_back : (m : Contents) → IsMetamodel m.meta → IsModel m → (f : FeatId) (p : ObjId) → refers m.meta f ≡ true → GivesBack m (give_up_back f p m) f p
 unfolding give_up_back
 gives_back m valid model f p r = on (opposite m.meta f) refl
   where
@@ -219,12 +219,12 @@ leaves m valid model p there = on (holder m p) refl
           };
         }
 
-record MakesWay (m n : Contents) (o : ObjId) (f : FeatId) (p : ObjId) : Type 0 where
+pub record MakesWay (m n : Contents) (o : ObjId) (f : FeatId) (p : ObjId) : Type 0 where
   pub less : IsLess m n
   pub content : contains m.meta f ≡ true → IsFree n p
   pub container : contains m.meta f ≡ false → is_contained_by m.meta f ≡ true → IsFree n o
 
-makes_way : (m : Contents) → IsMetamodel m.meta → IsModel m → (o : ObjId) (f : FeatId) (p : ObjId) → IsSome (object_at m.objects o) → IsSome (object_at m.objects p) → MakesWay m (make_way o f p m) o f p
+pub makes_way : (m : Contents) → IsMetamodel m.meta → IsModel m → (o : ObjId) (f : FeatId) (p : ObjId) → IsSome (object_at m.objects o) → IsSome (object_at m.objects p) → MakesWay m (make_way o f p m) o f p
 unfolding make_way
 makes_way m valid model o f p ho hp = on (contains m.meta f) refl (is_contained_by m.meta f) refl
   where
@@ -279,7 +279,7 @@ module _ (m : Contents) (valid : IsMetamodel m.meta) (model : IsModel m) where
   kind_class_of (Kind.Enum i) c q e h = absurd (none-some c e)
   kind_class_of Kind.Opaque c q e h = absurd (none-some c e)
 
-  other_end : (o : ObjId) (f : FeatId) (q : ObjId) → HasSlot m o f → IsOfType m f (Obj q) → (g : FeatId) → opposite m.meta f ≡ Some g → HasSlot m q g × IsOfType m g (Obj o)
+  pub other_end : (o : ObjId) (f : FeatId) (q : ObjId) → HasSlot m o f → IsOfType m f (Obj q) → (g : FeatId) → opposite m.meta f ≡ Some g → HasSlot m q g × IsOfType m g (Obj o)
   other_end o f q has typed g e =
       let b = back_of m.meta valid f g e in
       let kind = subst (λ x. IsSomeAnd x (λ feature. IsOfKind m feature.kind (Obj q))) b.here typed in

@@ -15,3 +15,4 @@ pub mod ListedRoots
 pub mod Unlinked
 pub mod Linked
 pub mod Added
+pub mod ReferenceWrites
