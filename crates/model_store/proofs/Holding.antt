@@ -148,18 +148,19 @@ pub refers_by : (m : Contents) (o p : ObjId) (f : FeatId) (object : Object) (k :
 refers_by m o p f object k once there l e h =
     subst (λ cells. Contains cells (Obj p)) (sym (ap (λ x. option_map_or (slot_in m.meta f) x []) there ∙ ap (λ x. option_map_or (λ k. slice_index_or object.slots k []) x []) (place_is m.meta object.class once k f l e))) h
 
+-- the holder refers to it by a containment
+pub holder_refers : (m : Contents) → ((class : ClassId) → class.0 < length m.meta.classes → SeenOnce m.meta class) → AreShaped m.meta m.objects → (p o : ObjId) (f : FeatId) → holder m p ≡ Some (o, f) → (contains m.meta f ≡ true) × Refers m o f p
+holder_refers m once shaped p o f e =
+    let x = some_from m.meta p m.objects 0 o f e in
+    let y = some_held m.meta p (features m.meta.classes x.1.class) x.1.slots f x.4 in
+    let z : 0 + x.0 ≡ x.0 = omega arith in
+    let there : object_at m.objects o ≡ Some x.1 = ap (λ n. slice_index_or m.objects n None) (x.2 ∙ z) ∙ x.3 in
+    (y.1.2, refers_by m o p f x.1 y.0 (once x.1.class (shaped o.0 x.1 there).class_within) there y.1.0 y.1.1 (held p (slice_index_or x.1.slots y.0 []) y.1.3))
+
 -- and the other way round
 pub contained_not : (m : Contents) → ((class : ClassId) → class.0 < length m.meta.classes → SeenOnce m.meta class) → AreShaped m.meta m.objects → (p : ObjId) → ((o : ObjId) (f : FeatId) → contains m.meta f ≡ true → Refers m o f p → ⊥) → container m p ≡ None
 contained_not m once shaped p none = on (holder m p) refl
   where
-    refers : (o : ObjId) (f : FeatId) → holder m p ≡ Some (o, f) → (contains m.meta f ≡ true) × Refers m o f p
-    refers o f e =
-        let x = some_from m.meta p m.objects 0 o f e in
-        let y = some_held m.meta p (features m.meta.classes x.1.class) x.1.slots f x.4 in
-        let z : 0 + x.0 ≡ x.0 = omega arith in
-        let there : object_at m.objects o ≡ Some x.1 = ap (λ n. slice_index_or m.objects n None) (x.2 ∙ z) ∙ x.3 in
-        (y.1.2, refers_by m o p f x.1 y.0 (once x.1.class (shaped o.0 x.1 there).class_within) there y.1.0 y.1.1 (held p (slice_index_or x.1.slots y.0 []) y.1.3))
-
     on : (x : Option (ObjId × FeatId)) → holder m p ≡ x → option_map (λ at. at.0) x ≡ None
     on None e = refl
-    on (Some y) e = let r = refers y.0 y.1 e in absurd (none y.0 y.1 r.0 r.1)
+    on (Some y) e = let r = holder_refers m once shaped p y.0 y.1 e in absurd (none y.0 y.1 r.0 r.1)

@@ -14,3 +14,10 @@ pub mod Holding
 pub mod Created
 pub mod CreatedModel
 pub mod AttributeWrites
+pub mod Removing
+pub mod Wired
+pub mod ListedRoots
+pub mod Unlinked
+pub mod Linked
+pub mod Added
+pub mod ReferenceWrites

@@ -1,12 +1,21 @@
 //! The laws of models, over the definitions alone. Each function has a law as its contract, and does nothing.
-ghost use Rattle.std.specs.Prelude.{◌<◌, length};
+ghost use Rattle.std.specs.Prelude.{◌<◌, List, length};
 ghost use Rattle.atl_base.specs.declared.numbers.ClassId.{ClassId};
+ghost use Rattle.atl_base.specs.declared.numbers.FeatId.{FeatId};
+ghost use Rattle.atl_base.specs.declared.numbers.ObjId.{ObjId};
 ghost use Rattle.ecore_meta.specs.Valid.{IsMetamodel};
 ghost use Rattle.model_store.specs.Contents.{Contents};
-ghost use Rattle.model_store.specs.Valid.{IsConcrete, IsModel};
-ghost use Rattle.model_store.specs.Writes.{created};
+ghost use Rattle.model_store.specs.Valid.{Fits, HasSlot, IsConcrete, IsModel};
+ghost use Rattle.model_store.specs.Writes.{created, write as written};
+ghost use Rattle.model_store.specs.declared.parts.Cellv.{Cellv};
 
 /// A model with a new object is a model.
 pub fn a_new_object_leaves_a_model()
     ensures { (m : Contents) → IsMetamodel m.meta → IsModel m → (class : ClassId) → class.0 < length m.meta.classes → IsConcrete m.meta class → IsModel (created m class) }
+{}
+
+/// A model with what fits written to a feature of one of its objects is a model: opposites agree, and each object has at most
+/// one container. A containment cycle may arise.
+pub fn a_write_leaves_a_model()
+    ensures { (m : Contents) → IsMetamodel m.meta → IsModel m → (o : ObjId) (f : FeatId) (values : List Cellv) → HasSlot m o f → Fits m f values → IsModel (written m o f values) }
 {}
