@@ -124,7 +124,7 @@ fn plain(alloc: Global, text: &Text, named: bool) -> Result<Symbol, AllocError>
 }
 
 /// What the token is to the grammar; `named` says that a plain word there is read as a name.
-pub(crate) fn read_symbol(alloc: Global, token: &Token, named: bool) -> Result<Symbol, AllocError>
+pub fn read_symbol(alloc: Global, token: &Token, named: bool) -> Result<Symbol, AllocError>
     ensures { IfOk result (λ s. s ≡ symbol_of token.now.sort token.now.text named) }
 {
     match token.sort {
