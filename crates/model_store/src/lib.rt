@@ -4,6 +4,7 @@
 mod adding;
 mod attributes;
 mod copies;
+pub mod laws;
 mod lookups;
 pub mod model;
 mod order;
