@@ -144,8 +144,8 @@ gives_up m valid model o f r = on (is_many m.meta f) refl (first_object (slot m 
         record {
           less = unlink_less m valid model o f q r h;
           none = λ s y k. let old = (unlink_less m valid model o f q r h).fewer o f y k in
-            let same = same_value y q (one_only (slot m o f) (Obj y) (Obj q) (at_most_one m model o f q s h) old h) in
-            (unlink_without m valid model o f q r h).gone o f y k (inl (refl, refl, same));
+              let same = same_value y q (one_only (slot m o f) (Obj y) (Obj q) (at_most_one m model o f q s h) old h) in
+              (unlink_without m valid model o f q r h).gone o f y k (inl (refl, refl, same));
         }
 
 -- and the other end likewise
@@ -166,11 +166,11 @@ gives_back m valid model f p r = on (opposite m.meta f) refl
         record {
           less = unlink_less m valid model q f p r back;
           none = λ h' k s y z.
-            let same = same_Some g h' (sym e ∙ k) in
-            let now : Refers (unlink q f p m) p g y = subst (λ w. Refers (unlink q f p m) p w y) (sym same) z in
-            let old = (unlink_less m valid model q f p r back).fewer p g y now in
-            let one = same_value y q (one_only (slot m p g) (Obj y) (Obj q) (at_most_one m model p g q i h) old h) in
-            (unlink_without m valid model q f p r back).gone p g y now (inr (g, e, (refl, refl, one)));
+              let same = same_Some g h' (sym e ∙ k) in
+              let now : Refers (unlink q f p m) p g y = subst (λ w. Refers (unlink q f p m) p w y) (sym same) z in
+              let old = (unlink_less m valid model q f p r back).fewer p g y now in
+              let one = same_value y q (one_only (slot m p g) (Obj y) (Obj q) (at_most_one m model p g q i h) old h) in
+              (unlink_without m valid model q f p r back).gone p g y now (inr (g, e, (refl, refl, one)));
         }
 
     on : (x : Option FeatId) → opposite m.meta f ≡ x → GivesBack m (option_map_or (λ g. if is_many m.meta g then m else option_map_or (λ r. unlink r f p m) (first_object (slot m p g)) m) x m) f p
@@ -213,9 +213,9 @@ leaves m valid model p there = on (holder m p) refl
           free = record {
             exists = l.exists p ∙ there;
             none = λ s k c z.
-              let d = sym (ap (λ w. contains w k) l.meta) ∙ c in
-              let same = model.contained_once y.0 s p y.1 k h.0 d h.1 (l.fewer s k p z) in
-              (unlink_without m valid model y.0 y.1 p r h.1).gone s k p z (inl (sym same.0, sym same.1, refl));
+                let d = sym (ap (λ w. contains w k) l.meta) ∙ c in
+                let same = model.contained_once y.0 s p y.1 k h.0 d h.1 (l.fewer s k p z) in
+                (unlink_without m valid model y.0 y.1 p r h.1).gone s k p z (inl (sym same.0, sym same.1, refl));
           };
         }
 
@@ -282,6 +282,7 @@ module _ (m : Contents) (valid : IsMetamodel m.meta) (model : IsModel m) where
   pub other_end : (o : ObjId) (f : FeatId) (q : ObjId) → HasSlot m o f → IsOfType m f (Obj q) → (g : FeatId) → opposite m.meta f ≡ Some g → HasSlot m q g × IsOfType m g (Obj o)
   other_end o f q has typed g e =
       let b = back_of m.meta valid f g e in
-      let kind = subst (λ x. IsSomeAnd x (λ feature. IsOfKind m feature.kind (Obj q))) b.here typed in
-      (has_own q g b.other b.there (class_kind b.feature.kind b.other.owner q b.fit.there kind),
-       subst (λ x. IsSomeAnd x (λ feature. IsOfKind m feature.kind (Obj o))) (sym b.there) (kind_class_of b.other.kind b.feature.owner o b.fit.back (is_of_owner o f b.feature b.here has)))
+      let kind = subst (λ x. IsSomeAnd x (λ feature. IsOfKind m feature.kind (Obj q))) b.here typed in (
+        has_own q g b.other b.there (class_kind b.feature.kind b.other.owner q b.fit.there kind),
+        subst (λ x. IsSomeAnd x (λ feature. IsOfKind m feature.kind (Obj o))) (sym b.there) (kind_class_of b.other.kind b.feature.owner o b.fit.back (is_of_owner o f b.feature b.here has)),
+      )

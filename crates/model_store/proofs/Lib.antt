@@ -2,8 +2,10 @@ mod Chains
 mod Climbing
 mod Digits
 mod Holders
+mod Keeping
 mod Numbers
 mod Samples
+mod PathRows
 mod Places
 mod Rising
 mod Trees

@@ -74,18 +74,26 @@ join_with m shaped x h y has r n room = made (join_changes m shaped x h y has n)
         by : (P : ObjId → FeatId → Type 0) → P x h → ((p : ObjId) (g : FeatId) → (p ≡ x → g ≡ h → ⊥) → P p g) → (p : ObjId) (g : FeatId) → P p g
         by P k o p g = ⊎_elim
             (λ e. ⊎_elim
-              (λ i. subst (λ q. P q g) (sym (same_object p x e)) (subst (P x) (sym (same_feature g h i)) k))
-              (λ d. o p g (λ _ z. d (ap (λ z. z.0) z)))
-              (cases_eq g.0 h.0))
+            (λ i. subst (λ q. P q g) (sym (same_object p x e)) (subst (P x) (sym (same_feature g h i)) k))
+            (λ d. o p g (λ _ z. d (ap (λ z. z.0) z)))
+            (cases_eq g.0 h.0))
             (λ d. o p g (λ z _. d (ap (λ z. z.0) z)))
             (cases_eq p.0 x.0)
 
 -- one that is there already
 already_with : (m : Contents) → AreShaped m.meta m.objects → (x : ObjId) (h : FeatId) (y : ObjId) → Refers m x h y → IsWith m m (IsThis x h y)
 already_with m shaped x h y r = record {
-  meta = refl; shaped = shaped; class = λ p. refl; exists = λ p. refl; has = λ p g. refl; more = λ p g v k. k;
+  meta = refl;
+  shaped = shaped;
+  class = λ p. refl;
+  exists = λ p. refl;
+  has = λ p g. refl;
+  more = λ p g v k. k;
   new = λ p g q t. subst (λ z. Refers m z g q) (sym t.0) (subst (λ z. Refers m x z q) (sym t.1) (subst (λ z. Refers m x h z) (sym t.2) r));
-  known = λ p g v k. inl k; single = λ p g s k. k; differ = λ p g k. k; attributes = λ p g a. refl;
+  known = λ p g v k. inl k;
+  single = λ p g s k. k;
+  differ = λ p g k. k;
+  attributes = λ p g a. refl;
 }
 
 with_both : (m n k : Contents) (G H : ObjId → FeatId → ObjId → Type 0) → IsWith m n G → IsWith n k H → IsWith m k (λ p g q. G p g q ⊎ H p g q)
@@ -105,10 +113,17 @@ with_both m n k G H a b = record {
 
 new_as : (m n : Contents) (G H : ObjId → FeatId → ObjId → Type 0) → ((p : ObjId) (g : FeatId) (q : ObjId) → G p g q → H p g q) → ((p : ObjId) (g : FeatId) (q : ObjId) → H p g q → G p g q) → IsWith m n G → IsWith m n H
 new_as m n G H to from x = record {
-  meta = x.meta; shaped = x.shaped; class = x.class; exists = x.exists; has = x.has; more = x.more;
+  meta = x.meta;
+  shaped = x.shaped;
+  class = x.class;
+  exists = x.exists;
+  has = x.has;
+  more = x.more;
   new = λ p g q t. x.new p g q (from p g q t);
   known = λ p g v k. ⊎_elim (λ a. inl a) (λ b. inr (b.0, b.1, to p g b.0 b.2)) (x.known p g v k);
-  single = x.single; differ = x.differ; attributes = x.attributes;
+  single = x.single;
+  differ = x.differ;
+  attributes = x.attributes;
 }
 
 -- joining what is held changes nothing
@@ -180,9 +195,9 @@ module _ (m : Contents) (valid : IsMetamodel m.meta) (model : IsModel m) (o : Ob
       on None e = subst (λ k. IsWith m k New) (sym (back None e)) (new_as m joined (IsThis o f q) New (λ p g y t. inl t) (λ p g y t. ⊎_elim (λ a. a) (λ b. absurd (none-some b.0 (sym e ∙ b.1))) t) first)
       on (Some g) e = subst (λ k. IsWith m k New) (sym (back (Some g) e))
           (new_as m (join q g o joined) (λ p h y. IsThis o f q p h y ⊎ IsThis q g o p h y) New
-            (λ p h y t. ⊎_elim (λ a. inl a) (λ b. inr (g, e, b)) t)
-            (λ p h y t. ⊎_elim (λ a. inl a) (λ b. inr (b.2.0, b.2.1 ∙ same_Some b.0 g (sym b.1 ∙ e), b.2.2)) t)
-            (with_both m joined (join q g o joined) (IsThis o f q) (IsThis q g o) first (back_with g e)))
+          (λ p h y t. ⊎_elim (λ a. inl a) (λ b. inr (g, e, b)) t)
+          (λ p h y t. ⊎_elim (λ a. inl a) (λ b. inr (b.2.0, b.2.1 ∙ same_Some b.0 g (sym b.1 ∙ e), b.2.2)) t)
+          (with_both m joined (join q g o joined) (IsThis o f q) (IsThis q g o) first (back_with g e)))
 
   -- ## What is wired
 
@@ -226,9 +241,9 @@ module _ (m : Contents) (valid : IsMetamodel m.meta) (model : IsModel m) (o : Ob
   all_typed p g h k d l =
       let v = slice_index_or (slot now p g) k d in
       subst (λ z. IsOfType z g v) (sym same_now) (still_typed g v (⊎_elim
-        (λ a. all_contained (IsOfType m g) (slot m p g) v h.typed a)
-        (λ b. subst (IsOfType m g) b.1 (new_typed p g b.0 b.2))
-        (both.known p g v (k, l, sym (get_or_default (slot now p g) k d v l)))))
+      (λ a. all_contained (IsOfType m g) (slot m p g) v h.typed a)
+      (λ b. subst (IsOfType m g) b.1 (new_typed p g b.0 b.2))
+      (both.known p g v (k, l, sym (get_or_default (slot now p g) k d v l)))))
 
   still_wired : IsWired now
   still_wired = record {
@@ -245,9 +260,9 @@ module _ (m : Contents) (valid : IsMetamodel m.meta) (model : IsModel m) (o : Ob
         let c = sym (ap (λ z. contains z g) both.meta) ∙ c in
         let d = sym (ap (λ z. contains z h) both.meta) ∙ d in
         ⊎_elim
-          (λ a. ⊎_elim (λ b. model.contained_once p r y g h c d a b) (λ t. absurd ((new_free r h y t d).none p g c a)) (refers_now r h y k))
-          (λ s. ⊎_elim (λ b. absurd ((new_free p g y s c).none r h d b)) (λ t. new_once p r y g h c d s t) (refers_now r h y k))
-          (refers_now p g y j);
+        (λ a. ⊎_elim (λ b. model.contained_once p r y g h c d a b) (λ t. absurd ((new_free r h y t d).none p g c a)) (refers_now r h y k))
+        (λ s. ⊎_elim (λ b. absurd ((new_free p g y s c).none r h d b)) (λ t. new_once p r y g h c d s t) (refers_now r h y k))
+        (refers_now p g y j);
   }
 
   -- ## The roots

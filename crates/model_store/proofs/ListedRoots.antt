@@ -44,9 +44,9 @@ module _ {X : Type 0} where
   inserted_differ (z ∷ xs) zero x h n = AllPairs-cons (λ a b. a ≢ b) x (z ∷ xs) (all_from (λ b. x ≢ b) (z ∷ xs) (λ y k e. n (subst (Contains (z ∷ xs)) (sym e) k))) h
   inserted_differ (z ∷ xs) (suc i) x h n = AllPairs-cons (λ a b. a ≢ b) z (insert xs i x)
       (all_from (λ b. z ≢ b) (insert xs i x) (λ y k e. ⊎_elim
-        (λ (s : x ≡ y). n (subst (Contains (z ∷ xs)) (e ∙ sym s) (Contains_first z xs)))
-        (λ (c : Contains xs y). h 0 (suc c.0) y (omega arith) (omega (arith, c.1)) (e ∙ sym c.2))
-        (inserted xs i x y k)))
+      (λ (s : x ≡ y). n (subst (Contains (z ∷ xs)) (e ∙ sym s) (Contains_first z xs)))
+      (λ (c : Contains xs y). h 0 (suc c.0) y (omega arith) (omega (arith, c.1)) (e ∙ sym c.2))
+      (inserted xs i x y k)))
       (inserted_differ xs i x (λ a b d lt l. h (suc a) (suc b) d (omega (arith, lt)) (omega (arith, l))) (λ k. n (Contains_later z x xs k)))
 
 abbrev is_other : ObjId → ObjId → Bool

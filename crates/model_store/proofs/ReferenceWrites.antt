@@ -147,9 +147,9 @@ all_added [] m valid model o f has r typed = model
 all_added (v ∷ values) m valid model o f has r typed =
     let x = object_of_type m f v r (typed 0 v (omega arith)) in
     subst (λ w. IsModel (add_all o f values (add_value o f w m))) x.1
-      (let a = added m valid model o f x.0 has r (subst (IsOfType m f) (sym x.1) (typed 0 v (omega arith))) in
-       all_added values (add o f x.0 m) (subst IsMetamodel (sym a.meta) valid) a.model o f (a.has o f ∙ has) (ap (λ z. refers z f) a.meta ∙ r)
-         (λ k d l. kept_type m (add o f x.0 m) a.meta a.class f _ (typed (suc k) d (omega (arith, l)))))
+    (let a = added m valid model o f x.0 has r (subst (IsOfType m f) (sym x.1) (typed 0 v (omega arith))) in
+    all_added values (add o f x.0 m) (subst IsMetamodel (sym a.meta) valid) a.model o f (a.has o f ∙ has) (ap (λ z. refers z f) a.meta ∙ r)
+    (λ k d l. kept_type m (add o f x.0 m) a.meta a.class f _ (typed (suc k) d (omega (arith, l)))))
 
 rewired_is_model : (values : List Cellv) (m : Contents) → IsMetamodel m.meta → IsModel m → (o : ObjId) (f : FeatId) → HasSlot m o f → refers m.meta f ≡ true → All (IsOfType m f) values → IsModel (rewired o f values m)
 rewired_is_model [] m valid model o f has r typed = (gives_up m valid model o f r).less.model

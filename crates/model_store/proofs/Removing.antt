@@ -72,15 +72,17 @@ module _ (m : Contents) (shaped : AreShaped m.meta m.objects) (x : ObjId) (h : F
   no_slot r e = by_object (object_at m.objects x) refl e
     where
       by_place : (object : Object) → object_at m.objects x ≡ Some object → (k : Option ℕ) → place_in m.meta object.class h ≡ k → (if is_some k then None else Some NoFeature) ≡ Some r → (set_slot m x h cells ≡ m) × (slot m x h ≡ [])
-      by_place object there None i e =
-          (ap (λ y. option_map_or (λ object. option_map_or (λ k. record m { objects = slice_set m.objects x.0 (Some (with_slot object k cells)) }) (place_in m.meta object.class h) m) y m) there ∙ ap (λ k. option_map_or (λ k. record m { objects = slice_set m.objects x.0 (Some (with_slot object k cells)) }) k m) i,
-           ap (λ y. option_map_or (slot_in m.meta h) y []) there ∙ ap (λ k. option_map_or (λ k. slice_index_or object.slots k []) k []) i)
+      by_place object there None i e = (
+        ap (λ y. option_map_or (λ object. option_map_or (λ k. record m { objects = slice_set m.objects x.0 (Some (with_slot object k cells)) }) (place_in m.meta object.class h) m) y m) there ∙ ap (λ k. option_map_or (λ k. record m { objects = slice_set m.objects x.0 (Some (with_slot object k cells)) }) k m) i,
+        ap (λ y. option_map_or (slot_in m.meta h) y []) there ∙ ap (λ k. option_map_or (λ k. slice_index_or object.slots k []) k []) i,
+      )
       by_place object there (Some k) i e = absurd (none-some r e)
 
       by_object : (y : Option Object) → object_at m.objects x ≡ y → option_map_or (λ object. if is_some (place_in m.meta object.class h) then None else Some NoFeature) y (Some NoObject) ≡ Some r → (set_slot m x h cells ≡ m) × (slot m x h ≡ [])
-      by_object None there e =
-          (ap (λ y. option_map_or (λ object. option_map_or (λ k. record m { objects = slice_set m.objects x.0 (Some (with_slot object k cells)) }) (place_in m.meta object.class h) m) y m) there,
-           ap (λ y. option_map_or (slot_in m.meta h) y []) there)
+      by_object None there e = (
+        ap (λ y. option_map_or (λ object. option_map_or (λ k. record m { objects = slice_set m.objects x.0 (Some (with_slot object k cells)) }) (place_in m.meta object.class h) m) y m) there,
+        ap (λ y. option_map_or (slot_in m.meta h) y []) there,
+      )
       by_object (Some object) there e = by_place object there (place_in m.meta object.class h) refl e
 
   same_all : slot m x h ≡ cells → IsChanged m m x h cells
@@ -162,8 +164,8 @@ cut_without m shaped x h y r = made (cut_changes m shaped x h y)
         by : (P : ObjId → FeatId → Type 0) → P x h → ((p : ObjId) (g : FeatId) → (p ≡ x → g ≡ h → ⊥) → P p g) → (p : ObjId) (g : FeatId) → P p g
         by P k o p g = ⊎_elim
             (λ e. ⊎_elim
-              (λ i. subst (λ q. P q g) (sym (same_object p x e)) (subst (P x) (sym (same_feature g h i)) k))
-              (λ d. o p g (λ _ z. d (ap (λ z. z.0) z)))
-              (cases_eq g.0 h.0))
+            (λ i. subst (λ q. P q g) (sym (same_object p x e)) (subst (P x) (sym (same_feature g h i)) k))
+            (λ d. o p g (λ _ z. d (ap (λ z. z.0) z)))
+            (cases_eq g.0 h.0))
             (λ d. o p g (λ z _. d (ap (λ z. z.0) z)))
             (cases_eq p.0 x.0)

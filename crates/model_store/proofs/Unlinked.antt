@@ -43,7 +43,13 @@ are_roots m valid h = record {
 
 pub model_of : (m : Contents) → IsMetamodel m.meta → IsWired m → AreRoots m → IsModel m
 model_of m valid w r = record {
-  shaped = w.shaped; concrete = w.concrete; fits = w.fits; defaults = w.defaults; differ = w.differ; opposites = w.opposites; contained_once = w.contained_once;
+  shaped = w.shaped;
+  concrete = w.concrete;
+  fits = w.fits;
+  defaults = w.defaults;
+  differ = w.differ;
+  opposites = w.opposites;
+  contained_once = w.contained_once;
   roots = λ p. (λ k. let x = r.free p k in (x.exists, contained_not m (seen_once m.meta valid) w.shaped p x.none), λ k. r.root p (record { exists = k.0; none = uncontained m p k.1 }));
   roots_differ = r.differ;
 }
@@ -155,9 +161,12 @@ module _ (m : Contents) (valid : IsMetamodel m.meta) (model : IsModel m) (o : Ob
   -- one that was contained by the pair becomes a root
   with_freed : (x r : ObjId) (h : FeatId) → contains m.meta h ≡ true → Refers m r h x → Gone r h x → ((p : ObjId) → p ≢ x → (s : ObjId) (k : FeatId) → contains m.meta k ≡ true → Gone s k p → ⊥) → IsModel (freed x now)
   with_freed x r h c y g n = freed_model now x now_valid still_wired
-      (record { exists = left.exists x ∙ exists_of x (referred_to m model r h x y); none = λ s k d z.
-        let same = model.contained_once r s x h k c (now_contains k d) y (left.fewer s k (Obj x) z) in
-        left.gone s k x z (subst (λ a. Gone a k x) same.0 (subst (λ b. Gone r b x) same.1 g)) })
+      (record {
+        exists = left.exists x ∙ exists_of x (referred_to m model r h x y);
+        none = λ s k d z.
+            let same = model.contained_once r s x h k c (now_contains k d) y (left.fewer s k (Obj x) z) in
+            left.gone s k x z (subst (λ a. Gone a k x) same.0 (subst (λ b. Gone r b x) same.1 g));
+      })
       all_free
       (λ p d k. subst (λ l. Contains l p) (sym same_roots) (before.root p (was_free p (n p d) k)))
       none_twice

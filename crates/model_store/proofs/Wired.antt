@@ -112,7 +112,7 @@ module _ (m : Contents) (objects : List (Option Object)) (roots : List ObjId) wh
     concrete = λ o. subst (λ c. IfSome c (IsConcrete m.meta)) (sym (x.class o)) (w.concrete o);
     fits = λ o f h. let old = w.fits o f (sym (x.has o f) ∙ h) in record {
       typed = λ k d l. let v = slice_index_or (slot left o f) k d in
-        still_of_type x.class f v (all_contained (IsOfType m f) (slot m o f) v old.typed (x.fewer o f v (k, l, sym (get_or_default (slot left o f) k d v l))));
+          still_of_type x.class f v (all_contained (IsOfType m f) (slot m o f) v old.typed (x.fewer o f v (k, l, sym (get_or_default (slot left o f) k d v l))));
       single = λ s. let z = old.single s in omega (arith, z, x.shorter o f);
     };
     defaults = λ o f h r s d e. w.defaults o f (sym (x.has o f) ∙ h) r s d (sym (x.attributes o f r) ∙ e);
@@ -163,10 +163,17 @@ ends_go_in_pairs meta valid o q f x y g h e (inr t) =
 -- the same by other words
 pub gone_as : (m n : Contents) (G H : ObjId → FeatId → ObjId → Type 0) → ((p : ObjId) (g : FeatId) (q : ObjId) → G p g q → H p g q) → ((p : ObjId) (g : FeatId) (q : ObjId) → H p g q → G p g q) → IsWithout m n G → IsWithout m n H
 gone_as m n G H to from x = record {
-  meta = x.meta; shaped = x.shaped; class = x.class; exists = x.exists; has = x.has; fewer = x.fewer;
+  meta = x.meta;
+  shaped = x.shaped;
+  class = x.class;
+  exists = x.exists;
+  has = x.has;
+  fewer = x.fewer;
   gone = λ p g q h t. x.gone p g q h (from p g q t);
   kept = λ p g q h t. x.kept p g q h (λ y. t (to p g q y));
-  shorter = x.shorter; differ = x.differ; attributes = x.attributes;
+  shorter = x.shorter;
+  differ = x.differ;
+  attributes = x.attributes;
 }
 
 pub ends_without : (m : Contents) → IsMetamodel m.meta → AreShaped m.meta m.objects → (o : ObjId) (f : FeatId) (q : ObjId) → refers m.meta f ≡ true → IsWithout m (cut_back o f q (cut o f q m)) (IsEnd m.meta o f q)
@@ -187,7 +194,7 @@ ends_without m valid shaped o f q r = on (opposite m.meta f) refl
         (gone_as m (cut o f q m) (IsThis o f q) (IsEnd m.meta o f q) (λ p g y t. inl t) (λ p g y t. ⊎_elim (λ a. a) (λ b. absurd (none-some b.0 (sym e ∙ b.1))) t) first)
     on (Some g) e = subst (λ k. IsWithout m k (IsEnd m.meta o f q)) (sym (back (Some g) e))
         (gone_as m (cut q g o (cut o f q m)) (λ p h y. IsThis o f q p h y ⊎ IsThis q g o p h y) (IsEnd m.meta o f q)
-          (λ p h y t. ⊎_elim (λ a. inl a) (λ b. inr (g, e, b)) t)
-          (λ p h y t. ⊎_elim (λ a. inl a) (λ b. inr (b.2.0, b.2.1 ∙ same_Some b.0 g (sym b.1 ∙ e), b.2.2)) t)
-          (without_both m (cut o f q m) (cut q g o (cut o f q m)) (IsThis o f q) (IsThis q g o) first
-            (cut_without (cut o f q m) (subst (λ z. AreShaped z (cut o f q m).objects) (sym first.meta) first.shaped) q g o (ap (λ z. refers z g) first.meta ∙ opposite_refers m.meta valid f g e))))
+        (λ p h y t. ⊎_elim (λ a. inl a) (λ b. inr (g, e, b)) t)
+        (λ p h y t. ⊎_elim (λ a. inl a) (λ b. inr (b.2.0, b.2.1 ∙ same_Some b.0 g (sym b.1 ∙ e), b.2.2)) t)
+        (without_both m (cut o f q m) (cut q g o (cut o f q m)) (IsThis o f q) (IsThis q g o) first
+        (cut_without (cut o f q m) (subst (λ z. AreShaped z (cut o f q m).objects) (sym first.meta) first.shaped) q g o (ap (λ z. refers z g) first.meta ∙ opposite_refers m.meta valid f g e))))

@@ -1,4 +1,5 @@
 pub mod Contents
+pub mod Laws
 pub mod Order
 pub mod Paths
 pub mod Valid

@@ -3,7 +3,7 @@
 use Rattle.std.specs.Prelude.{◌≡◌, ℕ, zero, suc, ◌==◌, flat_map, IsSome, Result, Ok, Err, ◌&&◌, Bool, false, List, [], ◌∷◌, ◌++◌, length, slice_get, Option, Some, None, if◌then◌else◌}
 use Rattle.std.specs.Fmt.{decimal}
 use Rattle.std.specs.Int.{is_in_range}
-use Rattle.std.specs.List.{position_or_len, find, list_all, list_any, before_first, after_first}
+use Rattle.std.specs.List.{position_or_len, find, list_all, list_any, slice_split, before_first, after_first}
 use Rattle.std.specs.Option.{option_map_or}
 use Rattle.std.specs.Str.{bytes_eq}
 use Rattle.atl_base.specs.declared.numbers.FeatId.{FeatId}
@@ -52,13 +52,8 @@ GivesPath m o (Err Full) = ⊥
 -- ## The object of a fragment
 
 -- the parts of a text between its slashes
-abbrev pub onto_first : ℕ → List (List ℕ) → List (List ℕ)
-onto_first b [] = (b ∷ []) ∷ []
-onto_first b (part ∷ parts) = (b ∷ part) ∷ parts
-
 abbrev pub parts_of : List ℕ → List (List ℕ)
-parts_of [] = [] ∷ []
-parts_of (b ∷ bytes) = if b == 47 then [] ∷ parts_of bytes else onto_first b (parts_of bytes)
+parts_of = slice_split (λ b. b == 47)
 
 -- one digit or more
 abbrev pub are_digits : List ℕ → Bool

@@ -5,6 +5,7 @@ ghost use Rattle.atl_base.specs.declared.numbers.FeatId.{FeatId};
 ghost use Rattle.atl_base.specs.declared.numbers.ObjId.{ObjId};
 ghost use Rattle.ecore_meta.specs.Valid.{IsMetamodel};
 ghost use Rattle.model_store.specs.Contents.{Contents};
+ghost use Rattle.model_store.specs.Laws.{IsWriteLaw};
 ghost use Rattle.model_store.specs.Valid.{Fits, HasSlot, IsConcrete, IsModel};
 ghost use Rattle.model_store.specs.Writes.{created, write as written};
 ghost use Rattle.model_store.specs.declared.parts.Cellv.{Cellv};
@@ -18,4 +19,9 @@ pub fn a_new_object_leaves_a_model()
 /// one container. A containment cycle may arise.
 pub fn a_write_leaves_a_model()
     ensures { (m : Contents) → IsMetamodel m.meta → IsModel m → (o : ObjId) (f : FeatId) (values : List Cellv) → HasSlot m o f → Fits m f values → IsModel (written m o f values) }
+{}
+
+/// A write leaves alone the metamodel, how many numbers have been given, and which objects there are, each with its class.
+pub fn write_law()
+    ensures { IsWriteLaw }
 {}
