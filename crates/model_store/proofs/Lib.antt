@@ -4,7 +4,6 @@ mod Digits
 mod Holders
 mod Keeping
 mod Numbers
-mod Samples
 mod PathRows
 mod Places
 mod Rising

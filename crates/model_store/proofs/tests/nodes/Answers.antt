@@ -5,7 +5,7 @@ use Rattle.ecore_meta.specs.declared.parts.FeatKind.TheVariants.{Refer, Str}
 use Rattle.ecore_meta.specs.declared.parts.Parts.{Parts}
 use Rattle.ecore_meta.specs.Inheritance.{features, features_within}
 use Rattle.ecore_meta.specs.Valid.{IsMetamodel}
-use Rattle.model_store.proofs.Samples.{Passes, passed}
+use Rattle.ecore_meta.proofs.Samples.{Passes, passed}
 use Rattle.model_store.proofs.tests.nodes.Goals as goal
 
 abbrev sample : Parts
