@@ -1,0 +1,24 @@
+-- What is said of reading: what it reads is of the grammar, all of the grammar is read, and each refusal is the right one.
+use Rattle.std.specs.Prelude.{◌≡◌, List, [], ◌∷◌, ◌++◌, Bool, true, false}
+use Rattle.atl_tree.specs.declared.module.Module.{Module}
+use Rattle.module_parse.specs.Marks.{Mark}
+use Rattle.module_parse.specs.Grammar.{IsModule}
+use Rattle.module_parse.specs.Machine.{End, Read, Expected, Deep, read}
+
+-- some module of the grammar, whatever its depth, begins so
+abbrev pub GoesOn : List Mark → Type 0
+GoesOn front = (more : List Mark) × (m : Module) × IsModule false (front ++ more) m
+
+-- no module agrees up to and with the first of the rest, or none ends there
+abbrev pub StopsAt : Bool → List Mark → List Mark → Type 0
+StopsAt b front [] = (m : Module) → IsModule b front m → ⊥
+StopsAt b front (t ∷ rest) = (more : List Mark) (m : Module) → IsModule b (front ++ (t ∷ more)) m → ⊥
+
+abbrev pub Tells : List Mark → End → Type 0
+Tells ts (Read m) = IsModule true ts m
+Tells ts (Expected rest) = (front : List Mark) × (ts ≡ front ++ rest) × GoesOn front × StopsAt false front rest
+Tells ts (Deep p) = (front : List Mark) × (rest : List Mark) × (ts ≡ front ++ rest) × GoesOn front × StopsAt true front rest
+
+pub record Exact (ts : List Mark) : Type 0 where
+  pub tells : Tells ts (read true ts)
+  pub reads : (m : Module) → IsModule true ts m → read true ts ≡ Read m

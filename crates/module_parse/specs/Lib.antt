@@ -1,0 +1,6 @@
+pub mod Keywords
+pub mod Marks
+pub mod Parts
+pub mod Grammar
+pub mod Machine
+pub mod Laws

@@ -1,0 +1,4 @@
+//! Modules, read from a text and printed.
+#![tactic(auto)]
+
+pub mod keyword;
