@@ -405,22 +405,22 @@ expr_goes o t RefusesInside = Refuses
 expr_goes o t (TooDeepInside p) = TooDeep p
 
 -- behind a statement's last `. name`, <- assigns to what stands before them
-abbrev pub assigns : ForExpr → List Frame → Next → Content → Step → Step
-assigns (ForStat k ss) fs (N.Named e n) (Word W.Gives) u = whole (over fs e []) (λ x. Goes (InExpr (ForAssigned k ss x n) [] N.Operand))
-assigns o fs m t u = u
+abbrev pub assigns : Content → ForExpr → List Frame → Next → Step → Step
+assigns (Word W.Gives) (ForStat k ss) fs (N.Named e n) u = whole (over fs e []) (λ x. Goes (InExpr (ForAssigned k ss x n) [] N.Operand))
+assigns t o fs m u = u
 
 module _ (b : Bool) where
-  abbrev pub in_kind : ForKind → List Frame → Next → Content → Place → Step
-  in_kind o [] (N.HaveKind k) t p = kind_end o k t
-  in_kind o fs n t p = kind_goes o (step_inside b fs n (symbol t) p)
+  abbrev pub in_kind : ForKind → Next → List Frame → Content → Place → Step
+  in_kind o (N.HaveKind k) [] t p = kind_end o k t
+  in_kind o n fs t p = kind_goes o (step_inside b fs n (symbol t) p)
 
   -- a context is no collection
   abbrev pub at_context : Module → Content → Place → Step
   at_context m (Shared (Fixed (S.Coll w))) p = Refuses
-  at_context m t p = in_kind (ForContext m) [] N.Kind t p
+  at_context m t p = in_kind (ForContext m) N.Kind [] t p
 
   abbrev pub in_expr : ForExpr → List Frame → Next → Content → Place → Step
-  in_expr o fs n t p = assigns o fs n t (expr_goes o t (step_inside b fs n (symbol t) p))
+  in_expr o fs n t p = assigns t o fs n (expr_goes o t (step_inside b fs n (symbol t) p))
 
   abbrev pub at_stat : Blocks → List Stat → Content → Place → Step
   at_stat k ss (Shared (Fixed (S.End E.CloseBrace))) p = Goes (block_end k ss)
@@ -458,7 +458,7 @@ module _ (b : Bool) where
   step (AtFirstParam o) t p = first_param o t p
   step (AtParam o ps) t p = a_name t p (λ n. Goes (AtParamColon o ps n))
   step (AtParamColon o ps n) t p = a_colon t (InKind (ForParam o ps n) [] N.Kind)
-  step (InKind o fs n) t p = in_kind o fs n t p
+  step (InKind o fs n) t p = in_kind o n fs t p
   step (InExpr o fs n) t p = in_expr o fs n t p
   step (AtWord m ws) t p = at_word m ws t
   step (AtRule m s) t p = a_rule t (AtRuleName m Started s false)
