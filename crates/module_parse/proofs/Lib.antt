@@ -1,3 +1,5 @@
 pub mod Inside
 pub mod Statements
 pub mod Accepts
+pub mod Writings
+pub mod Rows

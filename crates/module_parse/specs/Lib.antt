@@ -4,3 +4,5 @@ pub mod Parts
 pub mod Grammar
 pub mod Machine
 pub mod Laws
+pub mod Writing
+pub mod Printed
