@@ -33,7 +33,7 @@ Got x = ⊥
 pub got : (x : EndInside) (e : Expr) (r : List Lexeme) → x ≡ ReadInside e r → Got x
 got x e r h = subst Got (sym h) tt
 
-abbrev rest_of : EndInside → List Lexeme
+abbrev pub rest_of : EndInside → List Lexeme
 rest_of (ReadInside e r) = r
 rest_of (ExpectedInside r) = r
 rest_of (DeepInside p) = []
@@ -42,7 +42,7 @@ abbrev Some : List Lexeme → Type 0
 Some [] = ⊥
 Some (t ∷ ts) = Unit {0}
 
-over_rest : (fs : List Frame) (e : Expr) (rest : List Lexeme) → rest_of (over fs e rest) ≡ rest
+pub over_rest : (fs : List Frame) (e : Expr) (rest : List Lexeme) → rest_of (over fs e rest) ≡ rest
 over_rest [] e rest = refl
 over_rest (F.Left a p o ∷ fs) e rest = over_rest fs (binary a p o e) rest
 over_rest (F.Unary o p ∷ fs) e rest = over_rest fs (unary p o e) rest

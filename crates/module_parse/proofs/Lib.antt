@@ -4,5 +4,6 @@ pub mod Accepts
 pub mod Stands
 pub mod Sound
 pub mod SoundRules
+pub mod SoundStats
 pub mod Writings
 pub mod Rows

@@ -310,7 +310,7 @@ module _ (b : Bool) where
 
   -- a statement's expression does not begin as the statement form of `if` does
   abbrev pub Begun : ForExpr → List Lexeme → Type 0
-  Begun (ForStat k ss) [] = Unit {0}
+  Begun (ForStat k ss) [] = ⊥
   Begun (ForStat k ss) (x ∷ xs) = (more : List Lexeme) → begins_if ((x ∷ xs) ++ more) ≡ false
   Begun o front = Unit {0}
 
