@@ -139,6 +139,13 @@ module _ (b : Bool) where
   pub read_alone : (w : Written) → Whole b w → run_inside b [] N.Operand (spelt w) ≡ ReadInside (tree_of w) []
   read_alone w f = ap (run_inside b [] N.Operand) (sym (append-nil (spelt w))) ∙ reads b w 0 [] [] f tt tt
 
+  -- the rest of an expression is read, and the mark behind it is met
+  pub ends_expr : (ts : List Lexeme) (fs : List Frame) (n : Next) (e : Expr) (o : ForExpr) (t : Mark) (r : List Mark) → run_inside b fs n ts ≡ ReadInside e [] → Closing t.content
+      → run b (InExpr o fs n) (map shared ts ++ (t ∷ r)) ≡ after (expr_end o e t.content) (t ∷ r) (λ u. run b u r)
+  ends_expr ts fs n e o t r h c =
+      let x = reached ts fs n e h in
+      x.leads o (t ∷ r) ∙ ap (λ u. after u (t ∷ r) (λ v. run b v r)) (closing o x.gs x.m e t.content t.place x.done c)
+
   -- an expression is read, and the mark behind it is met
   pub reads_expr : (w : Written) (o : ForExpr) (t : Mark) (r : List Mark) → Whole b w → Closing t.content → run b (InExpr o [] N.Operand) (expression w ++ (t ∷ r)) ≡ after (expr_end o (tree_of w) t.content) (t ∷ r) (λ u. run b u r)
   reads_expr w o t r f c =

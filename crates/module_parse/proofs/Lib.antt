@@ -5,5 +5,7 @@ pub mod Stands
 pub mod Sound
 pub mod SoundRules
 pub mod SoundStats
+pub mod Ends
+pub mod Main
 pub mod Writings
 pub mod Rows

@@ -1,48 +1,37 @@
 -- What is read as a module was written.
-use Rattle.std.proofs.Common.{◌≡◌, ℕ, List, [], ◌∷◌, ◌++◌, refl, sym, ap, ◌∙◌, subst, append_assoc}
-use Rattle.std.proofs.lemmas.List.{append-nil, append_cancel_right, map-append}
-use Rattle.std.specs.Prelude.{Bool, true, false, Option, None, Some, map, if◌then◌else◌}
+use Rattle.std.proofs.Common.{◌≡◌, List, [], ◌∷◌, ◌++◌, refl, sym, ap, ◌∙◌, subst, append_assoc}
+use Rattle.std.proofs.lemmas.List.{map-append}
+use Rattle.std.specs.Prelude.{Bool, true, false, Option, None, Some, if◌then◌else◌}
 use Rattle.atl_base.specs.declared.place.Place.{Place}
 use Rattle.atl_tree.specs.declared.name.Name.{Name}
-use Rattle.atl_tree.specs.declared.name.ClassRef.{ClassRef}
 use Rattle.atl_tree.specs.declared.kind.KindNode.{KindNode}
 use Rattle.atl_tree.specs.declared.expr.Expr.{Expr}
 use Rattle.atl_tree.specs.declared.expr.BinaryOp.TheVariants as O
 use Rattle.atl_tree.specs.declared.module.Module.{Module}
-use Rattle.atl_tree.specs.declared.module.ModelDecl.{ModelDecl}
 use Rattle.atl_tree.specs.declared.module.Item.{Item}
-use Rattle.atl_tree.specs.declared.module.Item.TheVariants as I
 use Rattle.atl_tree.specs.declared.module.Param.{Param}
 use Rattle.atl_tree.specs.declared.module.Rule.{Rule}
 use Rattle.atl_tree.specs.declared.module.RuleSort.{RuleSort}
 use Rattle.atl_tree.specs.declared.module.RuleSort.TheVariants as R
-use Rattle.atl_tree.specs.declared.module.LocalVar.{LocalVar}
-use Rattle.atl_tree.specs.declared.module.Target.{Target}
-use Rattle.atl_tree.specs.declared.module.Bind.{Bind}
-use Rattle.atl_tree.specs.declared.module.Stat.{Stat}
 use Rattle.ocl_parse.specs.declared.sign.Ender.TheVariants as E
 use Rattle.ocl_parse.specs.declared.sign.Sign.TheVariants as S
 use Rattle.ocl_parse.specs.declared.frame.Frame.{Frame}
 use Rattle.ocl_parse.specs.declared.frame.Frame.TheVariants as F
 use Rattle.ocl_parse.specs.declared.frame.Next.{Next}
 use Rattle.ocl_parse.specs.declared.frame.Next.TheVariants as N
-use Rattle.ocl_parse.specs.Symbols.{Lexeme}
 use Rattle.atl_tree.specs.declared.kind.KindSort.TheVariants as Q
 use Rattle.ocl_parse.specs.declared.symbol.Symbol.TheVariants as T
-use Rattle.ocl_parse.specs.declared.symbol.Symbol.{Symbol}
-use Rattle.ocl_parse.specs.Symbols.{lexeme}
 use Rattle.ocl_parse.specs.Trees.{name, kind}
-use Rattle.ocl_parse.specs.Grammar.{fixed, kind_spelt, Written, spelt, tree_of, Kind, Basic, Class, Coll, kind_of}
-use Rattle.ocl_parse.proofs.Sound.{Stands as StandsInside}
+use Rattle.ocl_parse.specs.Grammar.{fixed, kind_spelt, Written, tree_of, Kind, Basic, Class, Coll, kind_of}
 use Rattle.module_parse.specs.declared.keyword.Keyword.TheVariants as W
 use Rattle.module_parse.specs.Marks.{Content, Word, Shared, Mark, mark, word, sign, called, shared, expression, kind_marks}
-use Rattle.module_parse.specs.Parts.{model, module_of, with_item, param, helper, class, pattern, local, target, bind, with_bind, rule, bare, with_parent, with_params, with_source, with_guard, with_local, with_target, with_block, Modifier, Abstract, Unique, Lazy, Modifiers, no_modifiers, has, with_modifier, may_stand, sort_of}
-use Rattle.module_parse.specs.Grammar.{Models, OneModel, MoreModels, Params, OneParam, MoreParams, Bracketed, NoParams, SomeParams, Context, NoContext, InContext, Signature, Attribute, Operation, WrittenHelper, Define, Words, NoWords, MoreWords, Parent, NoParent, Extends, Sources, OneSource, MoreSources, Guard, NoGuard, SomeGuard, Locals, NoLocals, MoreLocals, Using, NoUsing, SomeUsing, Binds, OneBind, MoreBinds, BindList, NoList, EmptyList, SomeBinds, Targets, OneTarget, MoreTargets, To, NoTo, SomeTo, WrittenStat, Eval, Assign, If, IfElse, For, Stats, NoStats, MoreStats, Block, NoBlock, SomeBlock, Start, NoStart, Entry, End, WrittenRule, WrittenItem, Help, Make, Items, NoItems, MoreItems, WrittenModule, Composed}
-use Rattle.module_parse.specs.Grammar.{models_marks, params_marks, bracketed_marks, context_marks, signature_marks, words_marks, parent_marks, sources_marks, guard_marks, locals_marks, using_marks, binds_marks, list_marks, targets_marks, to_marks, stat_marks, stats_marks, block_marks, start_marks, rest_marks, rule_marks, item_marks, items_marks, module_marks}
-use Rattle.module_parse.specs.Grammar.{models, params, bracketed, context, signature, modifiers, parent, sources, guard, locals, using, binds, bind_list, targets, to, stat, stats, block, start, rule_of, item, items, module_tree}
-use Rattle.module_parse.specs.Grammar.{IsContext, ContextFits, WordsFit, StartFits, begins_if, Whole, GuardFits, LocalsFit, UsingFits, BindsFit, ListFits, TargetsFit, ToFits, StatFits, StatsFit, BlockFits, RestFits, RuleFits, ItemFits, ModuleFits, IsModule}
-use Rattle.module_parse.specs.Machine.{Models as ModelsRead, ForTargets, ForSources, Owner, OfHelper, OfRule, ForClass, ForSource, ForTarget, ForKind, ForContext, ForParam, ForResult, ForLocalKind, Blocks, InDo, InIf, InElse, InFor, ForExpr, ForBody, ForGuard, ForLocal, ForBind, ForStat, ForAssigned, ForCondition, ForValues, Form, Plain, Modified, Started, State, AtStart, AtModuleName, AtModuleEnd, AtCreate, AtModel, AtModelColon, AtMeta, AtModelEnd, AtItem, AtHelper, AtContext, AtDefColon, AtHelperName, AtSignature, AtResultColon, AtFirstParam, AtParam, AtParamColon, InKind, InExpr, AtWord, AtRule, AtRuleName, AtRuleOpen, AtParent, AtBrace, AtNoParams, AtCalledBrace, AtFrom, AtSource, AtSourceColon, AtClass, AtBang, AtClassName, AtSourceEnd, AtRest, AtUsing, AtLocal, AtLocalColon, AtTo, AtTarget, AtTargetColon, AtBinds, AtFirstBind, AtBind, AtGives, AtTargetEnd, AtDo, AtRuleEnd, AtStat, AtIf, AtIfBrace, AtElse, AtElseBrace, AtFor, AtForName, AtForIn, AtForBrace, Step, Goes, Refuses, TooDeep, declared, model_end, modified, worded, at_word, at_item, at_helper, at_signature, with_all, first_param, rule_open, at_from, classed, at_do, at_to, at_rest, at_guard, source_end, at_local, target_end, at_binds, first_bind, block_end, kind_end, kind_goes, expr_end, whole, expr_goes, assigns, in_kind, at_context, in_expr, at_stat, at_if, at_else, step, End as EndRead, Read, Expected, Deep, too_deep, finish, after, run, read}
-use Rattle.module_parse.proofs.Stands.{upto, got, AllFit, Front, FromSources, FromParams, front_marks, front_rule, finished, completed, finished_rule, finished_marks, IsStart, FrontFits, finished_fits, Told, ModuleHead, TargetsHead, ModelsHead, so_far, BeforeModel, HelperHead, HelperNamed, OwnerHead, BeforeParam, SignatureHead, RuleNameHead, MatchedHead, ParentHead, FromHead, BeforeSource, SourcesHead, CalledHead, RestHead, BeforeLocal, UsedHead, BeforeTo, BeforeTarget, TargetHead, BeforeBind, ToHead, TargetsRead, BlockHead, BlocksHead, InBlock, IfHead, ElseHead, ForHead, ClassHead, Free, KindFits, KindHead, KindsHead, StandsKind, ExprHead, Begun, StandsExpr, Stands, StepStands}
+use Rattle.module_parse.specs.Parts.{model, module_of, with_item, param, class, pattern, target, bind, rule, with_params}
+use Rattle.module_parse.specs.Grammar.{Models, OneModel, MoreModels, Params, OneParam, MoreParams, Bracketed, NoParams, SomeParams, InContext, Operation, Sources, OneSource, MoreSources, Binds, OneBind, MoreBinds, BindList, Targets, OneTarget, MoreTargets, Start, NoStart, Entry, End, WrittenItem, NoItems, MoreItems, WrittenModule, Composed}
+use Rattle.module_parse.specs.Grammar.{models_marks, params_marks, bracketed_marks, sources_marks, binds_marks, list_marks, targets_marks, item_marks, items_marks, module_marks}
+use Rattle.module_parse.specs.Grammar.{models, params, bracketed, sources, binds, bind_list, targets, item, module_tree}
+use Rattle.module_parse.specs.Grammar.{StartFits, ItemFits, ModuleFits}
+use Rattle.module_parse.specs.Machine.{Models as ModelsRead, ForTargets, ForSources, Owner, OfHelper, OfRule, ForKind, ForContext, ForParam, ForResult, ForLocalKind, AtModelEnd, AtContext, declared, model_end, with_all, kind_end, in_kind, at_context}
+use Rattle.module_parse.proofs.Stands.{upto, got, Front, FromSources, FromParams, front_rule, completed, ModuleHead, BeforeModel, OwnerHead, Free, KindFits, StandsKind, Stands, StepStands}
 
 -- one more behind a comma, or the first
 abbrev add_model : Option (Models × Place) → Name → Place → Name → Models
@@ -208,12 +197,12 @@ module _ (b : Bool) where
       with_all_stands o (ps ++ (param n k ∷ [])) (SomeParams j.0 (add_param j.1 n i.0 st.0) p) rest all (param_added o ps n i.0 st.0 k p j.1 st.1 j.2)
       (rw (append_assoc (params_marks (add_param j.1 n i.0 st.0)) (sign p (S.End E.Close) ∷ []) rest) (rw (param_marks j.1 n i.0 st.0 (sign p (S.End E.Close) ∷ rest)) j.3))
   kind_end_stands (ForParam o ps n) k t p rest all st = tt
-  kind_end_stands (ForResult m c n ps) k (Shared (T.Fixed (S.Operator O.Eq))) p rest all st = let i = st.3 in ([], (λ r. refl), tt, (i.0, st.0, st.1, p, i.1))
+  kind_end_stands (ForResult m c n ps) k (Shared (T.Fixed (S.Operator O.Eq))) p rest all st = let i = st.3 in ([], (λ r. refl), tt, tt, (i.0, st.0, st.1, p, i.1))
   kind_end_stands (ForResult m c n ps) k t p rest all st = tt
-  kind_end_stands (ForLocalKind m r n) k (Shared (T.Fixed (S.Operator O.Eq))) p rest all st = let i = st.3 in ([], (λ r. refl), tt, (i.0, st.0, st.1, p, i.1))
+  kind_end_stands (ForLocalKind m r n) k (Shared (T.Fixed (S.Operator O.Eq))) p rest all st = let i = st.3 in ([], (λ r. refl), tt, tt, (i.0, st.0, st.1, p, i.1))
   kind_end_stands (ForLocalKind m r n) k t p rest all st = tt
 
-  have_kind_stands : (fs : List Frame) (o : ForKind) (k : KindNode) (t : Content) (p : Place) (rest all : List Mark) → StandsKind b o fs (N.HaveKind k) (mark p t ∷ rest) all → StepStands b rest all (in_kind b o (N.HaveKind k) fs t p)
+  have_kind_stands : (fs : List Frame) (o : ForKind) (k : KindNode) (t : Content) (p : Place) (rest all : List Mark) → StandsKind b o fs (N.HaveKind k) (mark p t ∷ rest) all → StepStands b rest all (in_kind o (N.HaveKind k) fs t p)
   have_kind_stands [] o k t p rest all st = kind_end_stands o k t p rest all st
   have_kind_stands (F.CollKind w q ∷ fs) o k (Shared (T.Fixed (S.End E.Close))) p rest all st =
       let i = st.3 in (
@@ -226,7 +215,7 @@ module _ (b : Bool) where
   have_kind_stands (F.CollKind w q ∷ fs) o k t p rest all st = tt
   have_kind_stands (f ∷ fs) o k t p rest all st = absurd st.3
 
-  pub in_kind_stands : (n : Next) (fs : List Frame) (o : ForKind) (t : Content) (p : Place) (rest all : List Mark) → StandsKind b o fs n (mark p t ∷ rest) all → StepStands b rest all (in_kind b o n fs t p)
+  pub in_kind_stands : (n : Next) (fs : List Frame) (o : ForKind) (t : Content) (p : Place) (rest all : List Mark) → StandsKind b o fs n (mark p t ∷ rest) all → StepStands b rest all (in_kind o n fs t p)
   in_kind_stands N.Kind fs o (Shared (T.Name s)) p rest all st = st.1
   in_kind_stands N.Kind fs o (Shared (T.Fixed (S.Basic w))) p rest all st = (Basic p w, refl, free_any o (Basic p w) st.0, st.1)
   in_kind_stands N.Kind fs o (Shared (T.Fixed (S.Coll w))) p rest all st = (st.0, st.1)
@@ -240,7 +229,7 @@ module _ (b : Bool) where
   in_kind_stands (N.HaveKind k) fs o t p rest all st = have_kind_stands fs o k t p rest all st
   in_kind_stands n fs o t p rest all st = absurd st
 
-  pub context_stands : (m : Module) (t : Content) (p : Place) (rest all : List Mark) → Stands b (AtContext m) (mark p t ∷ rest) all → StepStands b rest all (at_context b m t p)
+  pub context_stands : (m : Module) (t : Content) (p : Place) (rest all : List Mark) → Stands b (AtContext m) (mark p t ∷ rest) all → StepStands b rest all (at_context m t p)
   context_stands m (Shared (T.Fixed (S.Coll w))) p rest all st = tt
   context_stands m (Shared (T.Fixed (S.Basic w))) p rest all st = (Basic p w, refl, tt, st)
   context_stands m (Shared (T.Name s)) p rest all st = st

@@ -1,7 +1,6 @@
 -- What is read as a rule was written.
-use Rattle.std.proofs.Common.{◌≡◌, ℕ, List, [], ◌∷◌, ◌++◌, refl, sym, ap, ◌∙◌, subst, append_assoc}
-use Rattle.std.proofs.lemmas.List.{append-nil, append_cancel_right, map-append}
-use Rattle.std.specs.Prelude.{Bool, true, false, Option, None, Some, map, if◌then◌else◌}
+use Rattle.std.proofs.Common.{◌≡◌, List, [], ◌∷◌, ◌++◌, refl, sym, ap, ◌∙◌, subst, append_assoc}
+use Rattle.std.specs.Prelude.{Bool, true, false, Option, None, Some, if◌then◌else◌}
 use Rattle.atl_base.specs.declared.place.Place.{Place}
 use Rattle.atl_tree.specs.declared.name.Name.{Name}
 use Rattle.atl_tree.specs.declared.name.ClassRef.{ClassRef}
@@ -9,41 +8,25 @@ use Rattle.atl_tree.specs.declared.kind.KindNode.{KindNode}
 use Rattle.atl_tree.specs.declared.expr.Expr.{Expr}
 use Rattle.atl_tree.specs.declared.expr.BinaryOp.TheVariants as O
 use Rattle.atl_tree.specs.declared.module.Module.{Module}
-use Rattle.atl_tree.specs.declared.module.ModelDecl.{ModelDecl}
-use Rattle.atl_tree.specs.declared.module.Item.{Item}
 use Rattle.atl_tree.specs.declared.module.Item.TheVariants as I
-use Rattle.atl_tree.specs.declared.module.Param.{Param}
 use Rattle.atl_tree.specs.declared.module.Rule.{Rule}
 use Rattle.atl_tree.specs.declared.module.RuleSort.{RuleSort}
 use Rattle.atl_tree.specs.declared.module.RuleSort.TheVariants as R
-use Rattle.atl_tree.specs.declared.module.LocalVar.{LocalVar}
 use Rattle.atl_tree.specs.declared.module.Target.{Target}
-use Rattle.atl_tree.specs.declared.module.Bind.{Bind}
-use Rattle.atl_tree.specs.declared.module.Stat.{Stat}
 use Rattle.ocl_parse.specs.declared.sign.Ender.TheVariants as E
 use Rattle.ocl_parse.specs.declared.sign.Sign.TheVariants as S
-use Rattle.ocl_parse.specs.declared.frame.Frame.{Frame}
-use Rattle.ocl_parse.specs.declared.frame.Frame.TheVariants as F
-use Rattle.ocl_parse.specs.declared.frame.Next.{Next}
-use Rattle.ocl_parse.specs.declared.frame.Next.TheVariants as N
-use Rattle.ocl_parse.specs.Symbols.{Lexeme}
-use Rattle.atl_tree.specs.declared.kind.KindSort.TheVariants as Q
 use Rattle.ocl_parse.specs.declared.symbol.Symbol.TheVariants as T
-use Rattle.ocl_parse.specs.declared.symbol.Symbol.{Symbol}
-use Rattle.ocl_parse.specs.Symbols.{lexeme}
-use Rattle.ocl_parse.specs.Trees.{name, kind}
-use Rattle.ocl_parse.specs.Grammar.{fixed, kind_spelt, Written, spelt, tree_of, Kind, Basic, Class, Coll, kind_of}
-use Rattle.ocl_parse.proofs.Sound.{Stands as StandsInside}
+use Rattle.ocl_parse.specs.Grammar.{Written, tree_of, Kind, kind_of}
 use Rattle.module_parse.specs.declared.keyword.Keyword.TheVariants as W
-use Rattle.module_parse.specs.Marks.{Content, Word, Shared, Mark, mark, word, sign, called, shared, expression, kind_marks}
-use Rattle.module_parse.specs.Parts.{model, module_of, with_item, param, helper, class, pattern, local, target, bind, with_bind, rule, bare, with_parent, with_params, with_source, with_guard, with_local, with_target, with_block, Modifier, Abstract, Unique, Lazy, Modifiers, no_modifiers, has, with_modifier, may_stand, sort_of}
-use Rattle.module_parse.specs.Grammar.{Models, OneModel, MoreModels, Params, OneParam, MoreParams, Bracketed, NoParams, SomeParams, Context, NoContext, InContext, Signature, Attribute, Operation, WrittenHelper, Define, Words, NoWords, MoreWords, Parent, NoParent, Extends, Sources, OneSource, MoreSources, Guard, NoGuard, SomeGuard, Locals, NoLocals, MoreLocals, Using, NoUsing, SomeUsing, Binds, OneBind, MoreBinds, BindList, NoList, EmptyList, SomeBinds, Targets, OneTarget, MoreTargets, To, NoTo, SomeTo, WrittenStat, Eval, Assign, If, IfElse, For, Stats, NoStats, MoreStats, Block, NoBlock, SomeBlock, Start, NoStart, Entry, End, WrittenRule, WrittenItem, Help, Make, Items, NoItems, MoreItems, WrittenModule, Composed}
-use Rattle.module_parse.specs.Grammar.{models_marks, params_marks, bracketed_marks, context_marks, signature_marks, words_marks, parent_marks, sources_marks, guard_marks, locals_marks, using_marks, binds_marks, list_marks, targets_marks, to_marks, stat_marks, stats_marks, block_marks, start_marks, rest_marks, modifier, rule_marks, item_marks, items_marks, module_marks}
-use Rattle.module_parse.specs.Grammar.{models, params, bracketed, context, signature, modifiers, parent, sources, guard, locals, using, binds, bind_list, targets, to, stat, stats, block, start, rule_of, item, items, module_tree}
-use Rattle.module_parse.specs.Grammar.{IsContext, ContextFits, WordsFit, StartFits, begins_if, Whole, GuardFits, LocalsFit, UsingFits, BindsFit, ListFits, TargetsFit, ToFits, StatFits, StatsFit, BlockFits, RestFits, RuleFits, ItemFits, ModuleFits, IsModule}
-use Rattle.module_parse.specs.Machine.{Models as ModelsRead, ForTargets, ForSources, Owner, OfHelper, OfRule, ForClass, ForSource, ForTarget, ForKind, ForContext, ForParam, ForResult, ForLocalKind, Blocks, InDo, InIf, InElse, InFor, ForExpr, ForBody, ForGuard, ForLocal, ForBind, ForStat, ForAssigned, ForCondition, ForValues, Form, Plain, Modified, Started, State, AtStart, AtModuleName, AtModuleEnd, AtCreate, AtModel, AtModelColon, AtMeta, AtModelEnd, AtItem, AtHelper, AtContext, AtDefColon, AtHelperName, AtSignature, AtResultColon, AtFirstParam, AtParam, AtParamColon, InKind, InExpr, AtWord, AtRule, AtRuleName, AtRuleOpen, AtParent, AtBrace, AtNoParams, AtCalledBrace, AtFrom, AtSource, AtSourceColon, AtClass, AtBang, AtClassName, AtSourceEnd, AtRest, AtUsing, AtLocal, AtLocalColon, AtTo, AtTarget, AtTargetColon, AtBinds, AtFirstBind, AtBind, AtGives, AtTargetEnd, AtDo, AtRuleEnd, AtStat, AtIf, AtIfBrace, AtElse, AtElseBrace, AtFor, AtForName, AtForIn, AtForBrace, Step, Goes, Refuses, TooDeep, declared, model_end, modified, worded, at_word, at_item, at_helper, at_signature, with_all, first_param, rule_open, at_from, classed, at_do, at_to, at_rest, at_guard, source_end, at_local, target_end, at_binds, first_bind, block_end, kind_end, kind_goes, expr_end, whole, expr_goes, assigns, in_kind, at_context, in_expr, at_stat, at_if, at_else, step, End as EndRead, Read, Expected, Deep, too_deep, finish, after, run, read}
-use Rattle.module_parse.proofs.Stands.{upto, got, AllFit, Front, FromSources, FromParams, front_marks, front_rule, finished, completed, finished_rule, finished_marks, IsStart, FrontFits, finished_fits, Told, ModuleHead, TargetsHead, ModelsHead, so_far, BeforeModel, HelperHead, HelperNamed, OwnerHead, BeforeParam, SignatureHead, RuleNameHead, MatchedHead, ParentHead, FromHead, BeforeSource, SourcesHead, CalledHead, RestHead, BeforeLocal, UsedHead, BeforeTo, BeforeTarget, TargetHead, BeforeBind, ToHead, TargetsRead, BlockHead, BlocksHead, InBlock, IfHead, ElseHead, ForHead, ClassHead, Free, KindFits, KindHead, KindsHead, StandsKind, ExprHead, Begun, StandsExpr, Stands, StepStands}
-use Rattle.module_parse.proofs.Sound.{add_source, source_marks, source_trees, add_bind, bind_marks, bind_trees, add_target, target_marks, target_trees, front_plain, starts_alone, unlazy, guard_on, item_stands, with_all_stands}
+use Rattle.module_parse.specs.Marks.{Content, Word, Shared, Mark, mark, word, sign, called, expression, kind_marks}
+use Rattle.module_parse.specs.Parts.{with_item, class, pattern, local, target, bind, with_bind, rule, bare, with_parent, with_source, with_guard, with_local, with_target, Modifier, Abstract, Unique, Lazy, Modifiers, no_modifiers, has, with_modifier, may_stand, sort_of}
+use Rattle.module_parse.specs.Grammar.{NoParams, Words, NoWords, MoreWords, NoParent, Extends, Guard, NoGuard, SomeGuard, NoLocals, MoreLocals, Using, NoUsing, SomeUsing, Binds, BindList, NoList, EmptyList, SomeBinds, Targets, To, NoTo, SomeTo, Block, NoBlock, Entry, End, Make}
+use Rattle.module_parse.specs.Grammar.{bracketed_marks, words_marks, parent_marks, sources_marks, guard_marks, locals_marks, binds_marks, list_marks, to_marks, block_marks, start_marks, modifier}
+use Rattle.module_parse.specs.Grammar.{modifiers, parent, sources, guard, locals, using, binds, bind_list, targets, to, block}
+use Rattle.module_parse.specs.Grammar.{WordsFit, Whole, GuardFits, BindsFit, ListFits, TargetsFit, ToFits, BlockFits}
+use Rattle.module_parse.specs.Machine.{ForClass, ForSource, ForTarget, Form, Plain, Modified, Started, AtWord, AtRuleName, AtRuleOpen, AtParent, AtBrace, AtNoParams, AtCalledBrace, AtFrom, AtClassName, AtUsing, AtLocal, AtBinds, AtFirstBind, Goes, Refuses, modified, worded, at_word, at_item, rule_open, at_from, classed, at_do, at_to, at_rest, at_guard, source_end, at_local, target_end, at_binds, first_bind}
+use Rattle.module_parse.proofs.Stands.{got, AllFit, Front, FromSources, FromParams, front_rule, finished, completed, finished_rule, finished_marks, finished_fits, Told, ModuleHead, RuleNameHead, MatchedHead, SourcesHead, CalledHead, RestHead, BeforeLocal, UsedHead, BeforeTo, TargetHead, BeforeBind, ToHead, TargetsRead, BlockHead, Stands, StepStands}
+use Rattle.module_parse.proofs.Sound.{add_source, source_marks, source_trees, add_bind, bind_marks, bind_trees, add_target, target_marks, target_trees, front_plain, starts_alone, unlazy, guard_on, item_stands}
 
 module _ (b : Bool) where
   matched_of : (m : Module) (s : RuleSort) (a : Bool) (n : Name) (rest all : List Mark) → RuleNameHead b m Plain s a (called n ∷ rest) all → MatchedHead b m s a n rest all
@@ -140,7 +123,7 @@ module _ (b : Bool) where
   rest_stands m r t p rest all st = to_stands m r t p rest all (st.0, NoUsing, front_plain st.0 ∙ st.2, (st.1, tt, st.3))
 
   guard_opens : (m : Module) (r : Rule) (s : RuleSort) (p : Place) (rest all : List Mark) → r.sort ≡ s → SourcesHead b m r (sign p S.Open ∷ rest) all → StepStands b rest all (at_guard m r s)
-  guard_opens m r R.Matched p rest all h st = ([], (λ l. refl), tt, (p, h, st))
+  guard_opens m r R.Matched p rest all h st = ([], (λ l. refl), tt, tt, (p, h, st))
   guard_opens m r s p rest all h st = tt
 
   pub source_end_stands : (m : Module) (r : Rule) (t : Content) (p : Place) (rest all : List Mark) → SourcesHead b m r (mark p t ∷ rest) all → StepStands b rest all (source_end m r t)

@@ -1,24 +1,15 @@
 -- What is read as a statement was written, and so is a whole module.
-use Rattle.std.proofs.Common.{◌≡◌, ℕ, List, [], ◌∷◌, ◌++◌, refl, sym, ap, ◌∙◌, subst, append_assoc}
+use Rattle.std.proofs.Common.{◌≡◌, List, [], ◌∷◌, ◌++◌, refl, sym, ap, ◌∙◌, subst, append_assoc}
 use Rattle.std.proofs.lemmas.List.{append-nil, append_cancel_right, map-append}
 use Rattle.std.specs.Prelude.{Bool, true, false, Option, None, Some, map, if◌then◌else◌}
 use Rattle.atl_base.specs.declared.place.Place.{Place}
 use Rattle.atl_tree.specs.declared.name.Name.{Name}
-use Rattle.atl_tree.specs.declared.name.ClassRef.{ClassRef}
 use Rattle.atl_tree.specs.declared.kind.KindNode.{KindNode}
 use Rattle.atl_tree.specs.declared.expr.Expr.{Expr}
 use Rattle.atl_tree.specs.declared.expr.BinaryOp.TheVariants as O
 use Rattle.atl_tree.specs.declared.module.Module.{Module}
-use Rattle.atl_tree.specs.declared.module.ModelDecl.{ModelDecl}
-use Rattle.atl_tree.specs.declared.module.Item.{Item}
 use Rattle.atl_tree.specs.declared.module.Item.TheVariants as I
 use Rattle.atl_tree.specs.declared.module.Param.{Param}
-use Rattle.atl_tree.specs.declared.module.Rule.{Rule}
-use Rattle.atl_tree.specs.declared.module.RuleSort.{RuleSort}
-use Rattle.atl_tree.specs.declared.module.RuleSort.TheVariants as R
-use Rattle.atl_tree.specs.declared.module.LocalVar.{LocalVar}
-use Rattle.atl_tree.specs.declared.module.Target.{Target}
-use Rattle.atl_tree.specs.declared.module.Bind.{Bind}
 use Rattle.atl_tree.specs.declared.module.Stat.{Stat}
 use Rattle.ocl_parse.specs.declared.sign.Ender.TheVariants as E
 use Rattle.ocl_parse.specs.declared.sign.Sign.TheVariants as S
@@ -27,33 +18,30 @@ use Rattle.ocl_parse.specs.declared.frame.Frame.TheVariants as F
 use Rattle.ocl_parse.specs.declared.frame.Next.{Next}
 use Rattle.ocl_parse.specs.declared.frame.Next.TheVariants as N
 use Rattle.ocl_parse.specs.Symbols.{Lexeme}
-use Rattle.atl_tree.specs.declared.kind.KindSort.TheVariants as Q
 use Rattle.ocl_parse.specs.declared.symbol.Symbol.TheVariants as T
 use Rattle.ocl_parse.specs.declared.symbol.Symbol.{Symbol}
 use Rattle.ocl_parse.specs.Symbols.{lexeme}
-use Rattle.ocl_parse.specs.Trees.{name, kind, variable}
-use Rattle.ocl_parse.specs.Grammar.{fixed, named, kind_spelt, Written, spelt, tree_of, Kind, Basic, Class, Coll, kind_of}
+use Rattle.ocl_parse.specs.Trees.{name, variable}
+use Rattle.ocl_parse.specs.Grammar.{fixed, named, Written, spelt, tree_of, kind_of}
 use Rattle.ocl_parse.proofs.Sound.{Stands as StandsInside}
 use Rattle.module_parse.specs.declared.keyword.Keyword.{Keyword}
 use Rattle.module_parse.specs.declared.keyword.Keyword.TheVariants as W
 use Rattle.atl_tree.specs.declared.module.Stat.TheVariants as A
 use Rattle.module_parse.specs.Marks.{Content, Word, Shared, Mark, mark, word, sign, called, shared, expression, kind_marks}
-use Rattle.module_parse.specs.Parts.{model, module_of, with_item, param, helper, class, pattern, local, target, bind, with_bind, rule, bare, with_parent, with_params, with_source, with_guard, with_local, with_target, with_block, Modifier, Abstract, Unique, Lazy, Modifiers, no_modifiers, has, with_modifier, may_stand, sort_of}
-use Rattle.module_parse.specs.Grammar.{Models, OneModel, MoreModels, Params, OneParam, MoreParams, Bracketed, NoParams, SomeParams, Context, NoContext, InContext, Signature, Attribute, Operation, WrittenHelper, Define, Words, NoWords, MoreWords, Parent, NoParent, Extends, Sources, OneSource, MoreSources, Guard, NoGuard, SomeGuard, Locals, NoLocals, MoreLocals, Using, NoUsing, SomeUsing, Binds, OneBind, MoreBinds, BindList, NoList, EmptyList, SomeBinds, Targets, OneTarget, MoreTargets, To, NoTo, SomeTo, WrittenStat, Eval, Assign, If, IfElse, For, Stats, NoStats, MoreStats, Block, NoBlock, SomeBlock, Start, NoStart, Entry, End, WrittenRule, WrittenItem, Help, Make, Items, NoItems, MoreItems, WrittenModule, Composed}
-use Rattle.module_parse.specs.Grammar.{models_marks, params_marks, bracketed_marks, context_marks, signature_marks, words_marks, parent_marks, sources_marks, guard_marks, locals_marks, using_marks, binds_marks, list_marks, targets_marks, to_marks, stat_marks, stats_marks, block_marks, start_marks, rest_marks, rule_marks, item_marks, items_marks, module_marks}
-use Rattle.module_parse.specs.Grammar.{models, params, bracketed, context, signature, modifiers, parent, sources, guard, locals, using, binds, bind_list, targets, to, stat, stats, block, start, rule_of, item, items, module_tree}
-use Rattle.module_parse.specs.Grammar.{IsContext, ContextFits, WordsFit, StartFits, begins_if, Whole, GuardFits, LocalsFit, UsingFits, BindsFit, ListFits, TargetsFit, ToFits, StatFits, StatsFit, BlockFits, RestFits, RuleFits, ItemFits, ModuleFits, IsModule}
-use Rattle.module_parse.specs.Machine.{Models as ModelsRead, ForTargets, ForSources, Owner, OfHelper, OfRule, ForClass, ForSource, ForTarget, ForKind, ForContext, ForParam, ForResult, ForLocalKind, Blocks, InDo, InIf, InElse, InFor, ForExpr, ForBody, ForGuard, ForLocal, ForBind, ForStat, ForAssigned, ForCondition, ForValues, Form, Plain, Modified, Started, State, AtStart, AtModuleName, AtModuleEnd, AtCreate, AtModel, AtModelColon, AtMeta, AtModelEnd, AtItem, AtHelper, AtContext, AtDefColon, AtHelperName, AtSignature, AtResultColon, AtFirstParam, AtParam, AtParamColon, InKind, InExpr, AtWord, AtRule, AtRuleName, AtRuleOpen, AtParent, AtBrace, AtNoParams, AtCalledBrace, AtFrom, AtSource, AtSourceColon, AtClass, AtBang, AtClassName, AtSourceEnd, AtRest, AtUsing, AtLocal, AtLocalColon, AtTo, AtTarget, AtTargetColon, AtBinds, AtFirstBind, AtBind, AtGives, AtTargetEnd, AtDo, AtRuleEnd, AtStat, AtIf, AtIfBrace, AtElse, AtElseBrace, AtFor, AtForName, AtForIn, AtForBrace, Step, Goes, Refuses, TooDeep, declared, model_end, modified, worded, at_word, at_item, at_helper, at_signature, with_all, first_param, rule_open, at_from, classed, at_do, at_to, at_rest, at_guard, source_end, at_local, target_end, at_binds, first_bind, block_end, kind_end, kind_goes, expr_end, whole, expr_goes, assigns, in_kind, at_context, in_expr, at_stat, at_if, at_else, step, End as EndRead, Read, Expected, Deep, too_deep, finish, after, run, read}
-use Rattle.module_parse.proofs.Stands.{upto, got, AllFit, Front, FromSources, FromParams, front_marks, front_rule, finished, completed, finished_rule, finished_marks, IsStart, FrontFits, finished_fits, Told, ModuleHead, TargetsHead, ModelsHead, so_far, BeforeModel, HelperHead, HelperNamed, OwnerHead, BeforeParam, SignatureHead, RuleNameHead, MatchedHead, ParentHead, FromHead, BeforeSource, SourcesHead, CalledHead, RestHead, BeforeLocal, UsedHead, BeforeTo, BeforeTarget, TargetHead, BeforeBind, ToHead, TargetsRead, BlockHead, BlocksHead, InBlock, IfHead, ElseHead, ForHead, ClassHead, Free, KindFits, KindHead, KindsHead, StandsKind, ExprHead, Begun, StandsExpr, Stands, StepStands}
-use Rattle.std.specs.Prelude.{nat_le}
-use Rattle.ocl_parse.specs.declared.sign.Sign.{Sign}
+use Rattle.module_parse.specs.Parts.{with_item, helper, with_block}
+use Rattle.module_parse.specs.Grammar.{NoParams, NoContext, Attribute, Define, WrittenStat, Eval, Assign, If, IfElse, For, NoStats, MoreStats, SomeBlock, Help}
+use Rattle.module_parse.specs.Grammar.{context_marks, signature_marks, stat_marks, stats_marks, module_marks}
+use Rattle.module_parse.specs.Grammar.{signature, using, to, stat, stats}
+use Rattle.module_parse.specs.Grammar.{begins_if, Whole, StatFits, IsModule}
+use Rattle.module_parse.specs.Machine.{Blocks, InDo, InIf, InElse, InFor, ForExpr, ForBody, ForGuard, ForLocal, ForBind, ForStat, ForAssigned, ForCondition, ForValues, State, AtStart, AtModuleName, AtModuleEnd, AtCreate, AtModel, AtModelColon, AtMeta, AtModelEnd, AtItem, AtHelper, AtContext, AtDefColon, AtHelperName, AtSignature, AtResultColon, AtFirstParam, AtParam, AtParamColon, InKind, InExpr, AtWord, AtRule, AtRuleName, AtRuleOpen, AtParent, AtBrace, AtNoParams, AtCalledBrace, AtFrom, AtSource, AtSourceColon, AtClass, AtBang, AtClassName, AtSourceEnd, AtRest, AtUsing, AtLocal, AtLocalColon, AtTo, AtTarget, AtTargetColon, AtBinds, AtFirstBind, AtBind, AtGives, AtTargetEnd, AtDo, AtRuleEnd, AtStat, AtIf, AtIfBrace, AtElse, AtElseBrace, AtFor, AtForName, AtForIn, AtForBrace, Step, Goes, Refuses, TooDeep, block_end, expr_end, whole, expr_goes, in_expr, at_stat, at_if, at_else, step, End as EndRead, Read, too_deep, finish, after, run}
+use Rattle.module_parse.proofs.Stands.{front_rule, completed, Told, ModuleHead, InBlock, ElseHead, ExprHead, Begun, Stands, StepStands}
 use Rattle.ocl_parse.specs.Depth.{deep, is_shallow}
-use Rattle.ocl_parse.specs.Machine.{step as step_inside, last as last_inside, over, ended, after as after_inside, run as run_inside, Step as StepInside, Goes as GoesInside, Stops as StopsInside, Refuses as RefusesInside, TooDeep as TooDeepInside, End as EndInside, Read as ReadInside, Expected as ExpectedInside, Deep as DeepInside}
-use Rattle.ocl_parse.specs.Grammar.{IsExpr}
+use Rattle.ocl_parse.specs.Machine.{step as step_inside, last as last_inside, over, after as after_inside, run as run_inside, Step as StepInside, Goes as GoesInside, Stops as StopsInside, Refuses as RefusesInside, TooDeep as TooDeepInside, End as EndInside, Read as ReadInside, Expected as ExpectedInside, Deep as DeepInside}
 use Rattle.ocl_parse.proofs.Accepts.{admits_dot}
+use Rattle.ocl_parse.proofs.Ordered.{InOrder, StepInOrder, step_ordered}
 use Rattle.ocl_parse.proofs.Sound.{ReadOf as ReadOfInside, step_stands as step_stands_inside, StepStands as StepStandsInside, over_stands, sound as sound_inside}
 use Rattle.ocl_parse.proofs.Fine.{over_any}
-use Rattle.module_parse.proofs.Inside.{over_rest, rest_of, Got as IsRead, got as is_read}
+use Rattle.module_parse.proofs.Inside.{over_rest, rest_of}
 use Rattle.module_parse.proofs.Statements.{shallow}
 use Rattle.module_parse.proofs.Sound.{item_stands, with_all_stands, declared_stands, model_end_stands, in_kind_stands, context_stands}
 use Rattle.module_parse.proofs.SoundRules.{rule_open_stands, parent_stands, no_params_stands, called_stands, from_stands, class_stands, guarded_stands, to_stands, rest_stands, source_end_stands, using_stands, local_stands, local_added, target_end_stands, binds_stands, first_bind_stands, bind_next, bind_last, rule_end_stands, word_stands, item_begins, named_stands}
@@ -240,9 +228,9 @@ module _ (b : Bool) where
   over_whole : (gs : List Frame) (a e : Expr) (r : List Lexeme) → over gs a [] ≡ ReadInside e r → over gs a [] ≡ ReadInside e []
   over_whole gs a e r h = h ∙ ap (λ l. ReadInside e l) (sym (ap rest_of h) ∙ over_rest gs a [])
 
-  shared_stands : (o : ForExpr) (fs : List Frame) (n : Next) (s : Symbol) (p : Place) (front : List Lexeme) (rest all : List Mark) → ((r : List Lexeme) → StandsInside b fs n r (front ++ r)) → Settled o front → Begun b o (front ++ (lexeme p s ∷ []))
+  shared_stands : (o : ForExpr) (fs : List Frame) (n : Next) (s : Symbol) (p : Place) (front : List Lexeme) (rest all : List Mark) → ((r : List Lexeme) → StandsInside b fs n r (front ++ r)) → InOrder fs n → Settled o front → Begun b o (front ++ (lexeme p s ∷ []))
       → ExprHead b o (map shared front ++ (mark p (Shared s) ∷ rest)) all → StepStands b rest all (expr_goes o (Shared s) (step_inside b fs n s p))
-  shared_stands o fs n s p front rest all st g h k = on (step_inside b fs n s p) refl
+  shared_stands o fs n s p front rest all st d g h k = on (step_inside b fs n s p) refl
     where
       stopped : (gs : List Frame) (a : Expr) → step_inside b fs n s p ≡ StopsInside gs a → (u : EndInside) → over gs a [] ≡ u → StepStands b rest all (whole u (λ x. expr_end o x (Shared s)))
       stopped gs a i (ReadInside e r) j =
@@ -256,6 +244,7 @@ module _ (b : Bool) where
         front ++ (lexeme p s ∷ []),
         (λ r. subst (StandsInside b gs m r) (sym (append_assoc front (lexeme p s ∷ []) r)) (subst (StepStandsInside b (lexeme p s) r (front ++ (lexeme p s ∷ r))) i (step_stands_inside b fs n s p r (front ++ (lexeme p s ∷ r)) (st (lexeme p s ∷ r))))),
         h,
+        subst StepInOrder i (step_ordered b fs n s p d),
         subst (λ l. ExprHead b o l all) (sym (marks_more front (lexeme p s) rest)) k,
       )
       on (StopsInside gs a) i = stopped gs a i (over gs a []) refl
@@ -291,6 +280,7 @@ module _ (b : Bool) where
             [],
             (λ l. refl),
             tt,
+            tt,
             (
               record { w = z.0; fits = z.1; tree = z.3 },
               begins_front (spelt z.0) behind (subst (λ l. begins_if l ≡ false) parts g),
@@ -302,11 +292,11 @@ module _ (b : Bool) where
       on (ExpectedInside r) j = tt
       on (DeepInside q) j = tt
 
-  in_expr_stands : (t : Content) (o : ForExpr) (n : Next) (fs : List Frame) (p : Place) (front : List Lexeme) (rest all : List Mark) → ((r : List Lexeme) → StandsInside b fs n r (front ++ r)) → Settled o front → NextBegun o front t p
+  in_expr_stands : (t : Content) (o : ForExpr) (n : Next) (fs : List Frame) (p : Place) (front : List Lexeme) (rest all : List Mark) → ((r : List Lexeme) → StandsInside b fs n r (front ++ r)) → InOrder fs n → Settled o front → NextBegun o front t p
       → ExprHead b o (map shared front ++ (mark p t ∷ rest)) all → StepStands b rest all (in_expr b o fs n t p)
-  in_expr_stands (Word W.Gives) (ForStat k ss) (N.Named a n) fs p front rest all st g h i = assigned_stands k ss fs a n p front rest all st g i
-  in_expr_stands (Word k) o n fs p front rest all st g h i = word_in_expr o k fs n p rest all
-  in_expr_stands (Shared s) o n fs p front rest all st g h i = shared_stands o fs n s p front rest all st g h i
+  in_expr_stands (Word W.Gives) (ForStat k ss) (N.Named a n) fs p front rest all st d g h i = assigned_stands k ss fs a n p front rest all st g i
+  in_expr_stands (Word k) o n fs p front rest all st d g h i = word_in_expr o k fs n p rest all
+  in_expr_stands (Shared s) o n fs p front rest all st d g h i = shared_stands o fs n s p front rest all st d g h i
 
   begun_next : (o : ForExpr) (front : List Lexeme) (t : Content) (p : Place) → Begun b o front → NextBegun o front t p
   begun_next o (x ∷ xs) t p h = begun_more o x xs t p h
@@ -338,7 +328,7 @@ module _ (b : Bool) where
   second_begun k ss q (Shared s) p h = λ more. not_open q s p more h
 
   expr_begins : (k : Blocks) (ss : List Stat) (t : Content) (p : Place) (rest all : List Mark) → NoIf t → InBlock b k ss (mark p t ∷ rest) all → StepStands b rest all (in_expr b (ForStat k ss) [] N.Operand t p)
-  expr_begins k ss t p rest all h st = in_expr_stands t (ForStat k ss) N.Operand [] p [] rest all (λ r. refl) refl (first_begun k ss t p h) st
+  expr_begins k ss t p rest all h st = in_expr_stands t (ForStat k ss) N.Operand [] p [] rest all (λ r. refl) tt refl (first_begun k ss t p h) st
 
   stat_stands : (k : Blocks) (ss : List Stat) (t : Content) (p : Place) (rest all : List Mark) → InBlock b k ss (mark p t ∷ rest) all → StepStands b rest all (at_stat b k ss t p)
   stat_stands k ss (Shared (T.Fixed (S.End E.CloseBrace))) p rest all st = block_end_stands k ss p rest all st
@@ -348,10 +338,10 @@ module _ (b : Bool) where
 
   condition_begins : (k : Blocks) (ss : List Stat) (q : Place) (t : Content) (p : Place) (rest all : List Mark) → NoOpen t → InBlock b k ss (sign q S.If ∷ mark p t ∷ rest) all
       → StepStands b rest all (in_expr b (ForStat k ss) (F.Condition q ∷ []) N.Operand t p)
-  condition_begins k ss q t p rest all h st = in_expr_stands t (ForStat k ss) N.Operand (F.Condition q ∷ []) p (fixed q S.If ∷ []) rest all (λ r. (shallow b, refl)) refl (second_begun k ss q t p h) st
+  condition_begins k ss q t p rest all h st = in_expr_stands t (ForStat k ss) N.Operand (F.Condition q ∷ []) p (fixed q S.If ∷ []) rest all (λ r. (shallow b, refl)) tt refl (second_begun k ss q t p h) st
 
   if_stands : (k : Blocks) (ss : List Stat) (q : Place) (t : Content) (p : Place) (rest all : List Mark) → InBlock b k ss (sign q S.If ∷ mark p t ∷ rest) all → StepStands b rest all (at_if b k ss q t p)
-  if_stands k ss q (Shared (T.Fixed S.Open)) p rest all st = ([], (λ r. refl), tt, (q, p, st))
+  if_stands k ss q (Shared (T.Fixed S.Open)) p rest all st = ([], (λ r. refl), tt, tt, (q, p, st))
   if_stands k ss q t p rest all st = condition_begins k ss q t p rest all tt st
 
   else_stands : (k : Blocks) (ss : List Stat) (e : Expr) (zs : List Stat) (t : Content) (p : Place) (rest all : List Mark) → ElseHead b k ss e zs (mark p t ∷ rest) all → StepStands b rest all (at_else b k ss e zs t p)
@@ -397,7 +387,7 @@ module _ (b : Bool) where
   step_stands (AtParamColon o ps n) (Shared (T.Fixed S.Colon)) p rest all st = (tt, (p, st))
   step_stands (AtParamColon o ps n) t p rest all st = tt
   step_stands (InKind o fs n) t p rest all st = in_kind_stands b n fs o t p rest all st
-  step_stands (InExpr o fs n) t p rest all st = in_expr_stands t o n fs p st.0 rest all st.1 (settled o st.0 st.2) (begun_next o st.0 t p st.2) st.3
+  step_stands (InExpr o fs n) t p rest all st = in_expr_stands t o n fs p st.0 rest all st.1 st.3 (settled o st.0 st.2) (begun_next o st.0 t p st.2) st.4
   step_stands (AtWord m ws) t p rest all st = word_stands b m ws t p rest all st
   step_stands (AtRule m s) (Word W.Rule) p rest all st = (st.0, st.1, st.2, refl, p, st.3)
   step_stands (AtRule m s) t p rest all st = tt
@@ -439,7 +429,7 @@ module _ (b : Bool) where
   step_stands (AtFirstBind m r x) t p rest all st = first_bind_stands b m r x t p rest all st
   step_stands (AtBind m r x) (Shared (T.Name s)) p rest all st = st
   step_stands (AtBind m r x) t p rest all st = tt
-  step_stands (AtGives m r x n) (Word W.Gives) p rest all st = ([], (λ l. refl), tt, (p, st))
+  step_stands (AtGives m r x n) (Word W.Gives) p rest all st = ([], (λ l. refl), tt, tt, (p, st))
   step_stands (AtGives m r x n) t p rest all st = tt
   step_stands (AtTargetEnd m r) t p rest all st = target_end_stands b m r t p rest all st
   step_stands (AtDo m r) (Shared (T.Fixed S.OpenBrace)) p rest all st = (NoStats, tt, refl, (st.0, p, st.1))
@@ -457,7 +447,7 @@ module _ (b : Bool) where
   step_stands (AtFor k ss) t p rest all st = tt
   step_stands (AtForName k ss) (Shared (T.Name s)) p rest all st = st
   step_stands (AtForName k ss) t p rest all st = tt
-  step_stands (AtForIn k ss n) (Shared (T.Fixed (S.End E.In))) p rest all st = ([], (λ l. refl), tt, (p, st))
+  step_stands (AtForIn k ss n) (Shared (T.Fixed (S.End E.In))) p rest all st = ([], (λ l. refl), tt, tt, (p, st))
   step_stands (AtForIn k ss n) t p rest all st = tt
   step_stands (AtForBrace k ss n e) (Shared (T.Fixed S.OpenBrace)) p rest all st = (NoStats, tt, refl, (st.0, st.1, st.2, st.3, st.4, p, st.5))
   step_stands (AtForBrace k ss n e) t p rest all st = tt

@@ -1,5 +1,5 @@
 -- What has been read of a module in each state: before the rest stand the marks of what was written, and together they are all.
-use Rattle.std.proofs.Common.{◌≡◌, ℕ, List, [], ◌∷◌, ◌++◌, refl, sym, ap, ◌∙◌, subst, append_assoc}
+use Rattle.std.proofs.Common.{◌≡◌, List, [], ◌∷◌, ◌++◌, refl, ap, ◌∙◌, append_assoc}
 use Rattle.std.specs.Prelude.{Bool, true, false, Option, None, Some, map}
 use Rattle.atl_base.specs.declared.place.Place.{Place}
 use Rattle.atl_tree.specs.declared.name.Name.{Name}
@@ -9,15 +9,12 @@ use Rattle.atl_tree.specs.declared.expr.Expr.{Expr}
 use Rattle.atl_tree.specs.declared.expr.BinaryOp.TheVariants as O
 use Rattle.atl_tree.specs.declared.module.Module.{Module}
 use Rattle.atl_tree.specs.declared.module.ModelDecl.{ModelDecl}
-use Rattle.atl_tree.specs.declared.module.Item.{Item}
-use Rattle.atl_tree.specs.declared.module.Item.TheVariants as I
 use Rattle.atl_tree.specs.declared.module.Param.{Param}
 use Rattle.atl_tree.specs.declared.module.Rule.{Rule}
 use Rattle.atl_tree.specs.declared.module.RuleSort.{RuleSort}
 use Rattle.atl_tree.specs.declared.module.RuleSort.TheVariants as R
 use Rattle.atl_tree.specs.declared.module.LocalVar.{LocalVar}
 use Rattle.atl_tree.specs.declared.module.Target.{Target}
-use Rattle.atl_tree.specs.declared.module.Bind.{Bind}
 use Rattle.atl_tree.specs.declared.module.Stat.{Stat}
 use Rattle.ocl_parse.specs.declared.sign.Ender.TheVariants as E
 use Rattle.ocl_parse.specs.declared.sign.Sign.TheVariants as S
@@ -26,16 +23,17 @@ use Rattle.ocl_parse.specs.declared.frame.Frame.TheVariants as F
 use Rattle.ocl_parse.specs.declared.frame.Next.{Next}
 use Rattle.ocl_parse.specs.declared.frame.Next.TheVariants as N
 use Rattle.ocl_parse.specs.Symbols.{Lexeme}
-use Rattle.ocl_parse.specs.Grammar.{Written, spelt, tree_of, Kind, Basic, Class, Coll, kind_of}
+use Rattle.ocl_parse.specs.Grammar.{Written, spelt, tree_of, Kind, kind_of}
+use Rattle.ocl_parse.proofs.Ordered.{InOrder}
 use Rattle.ocl_parse.proofs.Sound.{Stands as StandsInside}
 use Rattle.module_parse.specs.declared.keyword.Keyword.TheVariants as W
 use Rattle.module_parse.specs.Marks.{Mark, word, sign, called, shared, expression, kind_marks}
-use Rattle.module_parse.specs.Parts.{model, module_of, with_item, param, class, pattern, local, target, bind, rule, bare, with_block, may_stand, sort_of, Modifiers}
-use Rattle.module_parse.specs.Grammar.{Models, OneModel, MoreModels, Params, OneParam, MoreParams, Bracketed, Context, Signature, Operation, WrittenHelper, Words, Parent, Sources, OneSource, MoreSources, Guard, NoGuard, SomeGuard, Locals, Using, Binds, OneBind, MoreBinds, BindList, Targets, OneTarget, MoreTargets, To, WrittenStat, Stats, MoreStats, Block, Start, NoStart, WrittenRule, Matched, Called, WrittenItem, Items, NoItems, MoreItems, WrittenModule, Composed}
-use Rattle.module_parse.specs.Grammar.{models_marks, params_marks, bracketed_marks, context_marks, signature_marks, words_marks, parent_marks, sources_marks, guard_marks, locals_marks, using_marks, binds_marks, list_marks, targets_marks, to_marks, stat_marks, stats_marks, block_marks, start_marks, rest_marks, rule_marks, item_marks, items_marks, module_marks}
-use Rattle.module_parse.specs.Grammar.{models, params, bracketed, context, signature, modifiers, parent, sources, guard, locals, using, binds, bind_list, targets, to, stat, stats, block, start, rule_of, item, items, module_tree}
-use Rattle.module_parse.specs.Grammar.{IsContext, ContextFits, WordsFit, StartFits, begins_if, Whole, GuardFits, LocalsFit, UsingFits, BindsFit, ListFits, TargetsFit, ToFits, StatFits, StatsFit, BlockFits, RestFits, RuleFits, ItemFits, ModuleFits}
-use Rattle.module_parse.specs.Machine.{Models as ModelsRead, ForTargets, ForSources, Owner, OfHelper, OfRule, ForClass, ForSource, ForTarget, ForKind, ForContext, ForParam, ForResult, ForLocalKind, Blocks, InDo, InIf, InElse, InFor, ForExpr, ForBody, ForGuard, ForLocal, ForBind, ForStat, ForAssigned, ForCondition, ForValues, Form, Plain, Modified, Started, State, AtStart, AtModuleName, AtModuleEnd, AtCreate, AtModel, AtModelColon, AtMeta, AtModelEnd, AtItem, AtHelper, AtContext, AtDefColon, AtHelperName, AtSignature, AtResultColon, AtFirstParam, AtParam, AtParamColon, InKind, InExpr, AtWord, AtRule, AtRuleName, AtRuleOpen, AtParent, AtBrace, AtNoParams, AtCalledBrace, AtFrom, AtSource, AtSourceColon, AtClass, AtBang, AtClassName, AtSourceEnd, AtRest, AtUsing, AtLocal, AtLocalColon, AtTo, AtTarget, AtTargetColon, AtBinds, AtFirstBind, AtBind, AtGives, AtTargetEnd, AtDo, AtRuleEnd, AtStat, AtIf, AtIfBrace, AtElse, AtElseBrace, AtFor, AtForName, AtForIn, AtForBrace, Step, Goes, Refuses, TooDeep}
+use Rattle.module_parse.specs.Parts.{class, target, rule, bare, may_stand, sort_of}
+use Rattle.module_parse.specs.Grammar.{Models, Params, Bracketed, Context, Signature, Words, Parent, Sources, Guard, Locals, Using, Binds, Targets, To, Stats, Block, Start, NoStart, WrittenRule, Matched, Called, WrittenModule}
+use Rattle.module_parse.specs.Grammar.{models_marks, params_marks, bracketed_marks, context_marks, signature_marks, words_marks, parent_marks, sources_marks, guard_marks, locals_marks, using_marks, binds_marks, targets_marks, to_marks, stats_marks, block_marks, start_marks, rest_marks, rule_marks, module_marks}
+use Rattle.module_parse.specs.Grammar.{models, params, bracketed, context, signature, modifiers, parent, sources, guard, locals, using, binds, targets, to, stats, block, start, rule_of, module_tree}
+use Rattle.module_parse.specs.Grammar.{IsContext, ContextFits, WordsFit, StartFits, begins_if, Whole, GuardFits, LocalsFit, UsingFits, BindsFit, TargetsFit, ToFits, StatsFit, BlockFits, RuleFits, ModuleFits}
+use Rattle.module_parse.specs.Machine.{Models as ModelsRead, ForTargets, ForSources, Owner, OfHelper, OfRule, ForClass, ForSource, ForTarget, ForKind, ForContext, ForParam, ForResult, ForLocalKind, Blocks, InDo, InIf, InElse, InFor, ForExpr, ForBody, ForGuard, ForLocal, ForBind, ForStat, ForAssigned, ForCondition, ForValues, Form, Plain, Modified, Started, State, AtStart, AtModuleName, AtModuleEnd, AtCreate, AtModel, AtModelColon, AtMeta, AtModelEnd, AtItem, AtHelper, AtContext, AtDefColon, AtHelperName, AtSignature, AtResultColon, AtFirstParam, AtParam, AtParamColon, InKind, InExpr, AtWord, AtRule, AtRuleName, AtRuleOpen, AtParent, AtBrace, AtNoParams, AtCalledBrace, AtFrom, AtSource, AtSourceColon, AtClass, AtBang, AtClassName, AtSourceEnd, AtRest, AtUsing, AtLocal, AtLocalColon, AtTo, AtTarget, AtTargetColon, AtBinds, AtFirstBind, AtBind, AtGives, AtTargetEnd, AtDo, AtRuleEnd, AtStat, AtIf, AtIfBrace, AtElse, AtElseBrace, AtFor, AtForName, AtForIn, AtForBrace, Step, Goes}
 
 -- what stands before a comma, and the comma; or nothing yet
 abbrev pub upto : {A : Type 0} → (A → List Mark) → Option (A × Place) → List Mark → List Mark
@@ -315,7 +313,7 @@ module _ (b : Bool) where
   Begun o front = Unit {0}
 
   abbrev pub StandsExpr : ForExpr → List Frame → Next → List Mark → List Mark → Type 0
-  StandsExpr o fs n rest all = (front : List Lexeme) × ((r : List Lexeme) → StandsInside b fs n r (front ++ r)) × Begun o front × ExprHead o (map shared front ++ rest) all
+  StandsExpr o fs n rest all = (front : List Lexeme) × ((r : List Lexeme) → StandsInside b fs n r (front ++ r)) × Begun o front × InOrder fs n × ExprHead o (map shared front ++ rest) all
 
   abbrev pub Stands : State → List Mark → List Mark → Type 0
   Stands AtStart rest all = rest ≡ all

@@ -1,6 +1,6 @@
 -- Reading, mark by mark: a machine that takes one mark a step. While an expression or a type is read, the machine's state
 -- holds that of the reading of expressions. The switch b says whether the depth of expressions counts.
-use Rattle.std.specs.Prelude.{Bool, false, List, [], ◌∷◌, ◌++◌, Option, None, Some, if◌then◌else◌}
+use Rattle.std.specs.Prelude.{Bool, true, false, List, [], ◌∷◌, ◌++◌, Option, None, Some, if◌then◌else◌}
 use Rattle.atl_base.specs.declared.place.Place.{Place}
 use Rattle.atl_tree.specs.declared.name.Name.{Name}
 use Rattle.atl_tree.specs.declared.name.ClassRef.{ClassRef}
@@ -409,16 +409,16 @@ abbrev pub assigns : Content → ForExpr → List Frame → Next → Step → St
 assigns (Word W.Gives) (ForStat k ss) fs (N.Named e n) u = whole (over fs e []) (λ x. Goes (InExpr (ForAssigned k ss x n) [] N.Operand))
 assigns t o fs m u = u
 
+abbrev pub in_kind : ForKind → Next → List Frame → Content → Place → Step
+in_kind o (N.HaveKind k) [] t p = kind_end o k t
+in_kind o n fs t p = kind_goes o (step_inside true fs n (symbol t) p)
+
+-- a context is no collection
+abbrev pub at_context : Module → Content → Place → Step
+at_context m (Shared (Fixed (S.Coll w))) p = Refuses
+at_context m t p = in_kind (ForContext m) N.Kind [] t p
+
 module _ (b : Bool) where
-  abbrev pub in_kind : ForKind → Next → List Frame → Content → Place → Step
-  in_kind o (N.HaveKind k) [] t p = kind_end o k t
-  in_kind o n fs t p = kind_goes o (step_inside b fs n (symbol t) p)
-
-  -- a context is no collection
-  abbrev pub at_context : Module → Content → Place → Step
-  at_context m (Shared (Fixed (S.Coll w))) p = Refuses
-  at_context m t p = in_kind (ForContext m) N.Kind [] t p
-
   abbrev pub in_expr : ForExpr → List Frame → Next → Content → Place → Step
   in_expr o fs n t p = assigns t o fs n (expr_goes o t (step_inside b fs n (symbol t) p))
 
