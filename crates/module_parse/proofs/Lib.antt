@@ -7,5 +7,6 @@ pub mod SoundRules
 pub mod SoundStats
 pub mod Ends
 pub mod Main
+pub mod Refusals
 pub mod Writings
 pub mod Rows

@@ -6,3 +6,4 @@ pub mod Machine
 pub mod Laws
 pub mod Writing
 pub mod Printed
+pub mod Reading
