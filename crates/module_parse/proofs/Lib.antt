@@ -9,4 +9,5 @@ pub mod Ends
 pub mod Main
 pub mod Refusals
 pub mod Writings
+pub mod Says
 pub mod Rows

@@ -7,3 +7,4 @@ pub mod Laws
 pub mod Writing
 pub mod Printed
 pub mod Reading
+pub mod Places
