@@ -10,4 +10,6 @@ pub mod Main
 pub mod Refusals
 pub mod Writings
 pub mod Says
+pub mod SaysParts
+pub mod SaysModules
 pub mod Rows

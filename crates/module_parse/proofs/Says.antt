@@ -35,14 +35,14 @@ sort_is : (y : Q.KindSort-F KindSort KindNode) → sort_written (roll-KindSort y
 unfolding kind_written sort_written
 sort_is y = fold-roll-KindSort _ _ kind_layer (λ x. x.what) y
 
-kind_says : (k : Kind) → kind_written (kind_of k) ≡ placed_kind k
+pub kind_says : (k : Kind) → kind_written (kind_of k) ≡ placed_kind k
 kind_says (Basic p w) = kind_is (kind p (L.Basic w)) ∙ ap sort_written (sym (L.rolls-Basic w)) ∙ sort_is (Q.Basic w)
 kind_says (Class m p c) = kind_is (kind m.place (L.Class (class m c.text))) ∙ ap sort_written (sym (L.rolls-Class (class m c.text))) ∙ sort_is (Q.Class (class m c.text))
 kind_says (Coll p w q k r) =
     kind_is (kind p (L.Coll w (kind_of k))) ∙ ap sort_written (sym (L.rolls-Coll w (kind_of k))) ∙ sort_is (Q.Coll w (kind_of k)) ∙ ap (λ u. Coll here w here u here) (kind_says k)
 
 -- it stands where level l may, and has the other's tree
-abbrev Says : ℕ → Written → Written → Type 0
+abbrev pub Says : ℕ → Written → Written → Type 0
 Says l u v = ((d : ℕ) → Fits false l d u) × (tree_of u ≡ tree_of (placed v))
 
 round_says : (t : Bool) (l m : ℕ) (u v : Written) → nat_lt m l ≡ t → ((j : ℕ) → j ≤ m → Says j u v) → Says l (round_where t u) v

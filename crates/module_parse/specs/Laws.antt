@@ -2,7 +2,9 @@
 use Rattle.std.specs.Prelude.{◌≡◌, List, [], ◌∷◌, ◌++◌, Bool, true, false}
 use Rattle.atl_tree.specs.declared.module.Module.{Module}
 use Rattle.module_parse.specs.Marks.{Mark}
-use Rattle.module_parse.specs.Grammar.{IsModule}
+use Rattle.module_parse.specs.Grammar.{WrittenModule, module_marks, module_tree, ModuleFits, IsModule}
+use Rattle.module_parse.specs.Writing.{module_written}
+use Rattle.module_parse.specs.Places.{placed_module}
 use Rattle.module_parse.specs.Machine.{End, Read, Expected, Deep, read}
 
 -- some module of the grammar, whatever its depth, begins so
@@ -22,3 +24,7 @@ Tells ts (Deep p) = (front : List Mark) × (rest : List Mark) × (ts ≡ front +
 pub record Exact (ts : List Mark) : Type 0 where
   pub tells : Tells ts (read true ts)
   pub reads : (m : Module) → IsModule true ts m → read true ts ≡ Read m
+
+-- what is canonically written for a module's tree is of the grammar, whatever its depth, and has that tree up to places
+abbrev pub IsCanonical : WrittenModule → Type 0
+IsCanonical w = ModuleFits false w → IsModule false (module_marks (module_written (module_tree w))) (module_tree (placed_module w))

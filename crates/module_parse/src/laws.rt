@@ -1,9 +1,15 @@
 //! The laws of reading, over the definitions alone. Each function has a law as its contract, and does nothing.
 ghost use Rattle.std.specs.Prelude.{List};
 ghost use Rattle.module_parse.specs.Marks.{Mark};
-ghost use Rattle.module_parse.specs.Laws.{Exact};
+ghost use Rattle.module_parse.specs.Grammar.{WrittenModule};
+ghost use Rattle.module_parse.specs.Laws.{Exact, IsCanonical};
 
 /// What is read is a module of the grammar, all of the grammar is read, and a refusal stands where no module goes on.
 pub fn reading_is_exact()
     ensures { (ts : List Mark) → Exact ts }
+{}
+
+/// The marks of a module's canonical text are those of the same module, places aside.
+pub fn canonical_marks_have_the_tree()
+    ensures { (w : WrittenModule) → IsCanonical w }
 {}
