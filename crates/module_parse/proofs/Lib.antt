@@ -12,4 +12,5 @@ pub mod Writings
 pub mod Says
 pub mod SaysParts
 pub mod SaysModules
+pub mod Readings
 pub mod Rows

@@ -20,7 +20,7 @@ use Rattle.std.specs.Prelude.{None}
 use Rattle.module_parse.specs.declared.keyword.Keyword.TheVariants as W
 use Rattle.module_parse.specs.Marks.{Content, Word, Shared, Mark, symbol}
 use Rattle.module_parse.specs.Machine.{Blocks, ForExpr, ForStat, State, AtStart, AtCreate, AtItem, InExpr, AtStat, AtIf, AtElse, Step, Goes, Refuses, TooDeep, expr_goes, assigns, in_expr, at_stat, at_if, at_else, step, End, Read, Expected, Deep, too_deep, finish, after, run, read}
-use Rattle.module_parse.specs.Laws.{GoesOn, StopsAt, Tells, Exact}
+use Rattle.module_parse.specs.Laws.{GoesOn, StopsAt, Tells, Exact, HasOne}
 use Rattle.module_parse.proofs.Accepts.{accepts}
 use Rattle.module_parse.proofs.Stands.{Stands, StepStands}
 use Rattle.module_parse.proofs.SoundStats.{ReadOf, step_stands, sound}
@@ -236,3 +236,10 @@ exact ts = record {
   tells = tells ts (read true ts) (halts ts AtStart ts refl) (sound true ts AtStart ts refl);
   reads = λ m h. accepts true ts m h;
 }
+
+abbrev module_or : Module → End → Module
+module_or d (Read m) = m
+module_or d u = d
+
+pub one : (ts : List Mark) → HasOne ts
+one ts m n h k = ap (module_or m) (sym (accepts true ts m h) ∙ accepts true ts n k)

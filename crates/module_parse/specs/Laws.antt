@@ -28,3 +28,7 @@ pub record Exact (ts : List Mark) : Type 0 where
 -- what is canonically written for a module's tree is of the grammar, whatever its depth, and has that tree up to places
 abbrev pub IsCanonical : WrittenModule → Type 0
 IsCanonical w = ModuleFits false w → IsModule false (module_marks (module_written (module_tree w))) (module_tree (placed_module w))
+
+-- marks have one tree
+abbrev pub HasOne : List Mark → Type 0
+HasOne ts = (m n : Module) → IsModule true ts m → IsModule true ts n → m ≡ n

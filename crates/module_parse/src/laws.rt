@@ -2,7 +2,7 @@
 ghost use Rattle.std.specs.Prelude.{List};
 ghost use Rattle.module_parse.specs.Marks.{Mark};
 ghost use Rattle.module_parse.specs.Grammar.{WrittenModule};
-ghost use Rattle.module_parse.specs.Laws.{Exact, IsCanonical};
+ghost use Rattle.module_parse.specs.Laws.{Exact, HasOne, IsCanonical};
 
 /// What is read is a module of the grammar, all of the grammar is read, and a refusal stands where no module goes on.
 pub fn reading_is_exact()
@@ -12,4 +12,9 @@ pub fn reading_is_exact()
 /// The marks of a module's canonical text are those of the same module, places aside.
 pub fn canonical_marks_have_the_tree()
     ensures { (w : WrittenModule) → IsCanonical w }
+{}
+
+/// No marks are those of two modules.
+pub fn marks_have_one_tree()
+    ensures { (ts : List Mark) → HasOne ts }
 {}
