@@ -13,4 +13,5 @@ pub mod Says
 pub mod SaysParts
 pub mod SaysModules
 pub mod Readings
+pub mod Symbols
 pub mod Rows

@@ -1,7 +1,9 @@
 -- What is said of reading: what it reads is of the grammar, all of the grammar is read, and each refusal is the right one.
-use Rattle.std.specs.Prelude.{◌≡◌, List, [], ◌∷◌, ◌++◌, Bool, true, false}
+use Rattle.std.specs.Prelude.{◌≡◌, List, [], ◌∷◌, ◌++◌, Bool, true, false, map}
 use Rattle.atl_tree.specs.declared.module.Module.{Module}
-use Rattle.module_parse.specs.Marks.{Mark}
+use Rattle.atl_tree.specs.declared.token.Token.{Token}
+use Rattle.ocl_parse.specs.Symbols.{Lexeme, lexeme, lexemes}
+use Rattle.module_parse.specs.Marks.{Mark, symbol, marks}
 use Rattle.module_parse.specs.Grammar.{WrittenModule, module_marks, module_tree, ModuleFits, IsModule}
 use Rattle.module_parse.specs.Writing.{module_written}
 use Rattle.module_parse.specs.Places.{placed_module}
@@ -32,3 +34,11 @@ IsCanonical w = ModuleFits false w → IsModule false (module_marks (module_writ
 -- marks have one tree
 abbrev pub HasOne : List Mark → Type 0
 HasOne ts = (m n : Module) → IsModule true ts m → IsModule true ts n → m ≡ n
+
+-- what a mark is to an expression
+abbrev pub inner : Mark → Lexeme
+inner t = lexeme t.place (symbol t.content)
+
+-- an expression is read from the marks of tokens as from the tokens
+abbrev pub SharesSymbols : List Token → Type 0
+SharesSymbols ts = (led : Bool) → map inner (marks led ts) ≡ lexemes led ts
