@@ -14,4 +14,5 @@ pub mod SaysParts
 pub mod SaysModules
 pub mod Readings
 pub mod Symbols
+pub mod Hands
 pub mod Rows
