@@ -30,6 +30,8 @@ use Rattle.module_parse.specs.Grammar.{models, bracketed, modifiers, guard, usin
 use Rattle.module_parse.specs.Grammar.{WordsFit, StartFits, begins_if, Whole, GuardFits, BindsFit, ListFits, TargetsFit, ToFits, StatFits, StatsFit, BlockFits, RuleFits, ItemFits, ItemsFit, ModuleFits, IsModule}
 use Rattle.module_parse.specs.Writing.{here, name_here, whole_written, round_leftmost, beginning, models_written, bracketed_written, abstract_words, sort_words, guard_written, using_written, more_binds, list_written, more_targets, to_written, more_stats, stat_layer, stat_written, block_written, called_written, matched_written, by_sort, item_written, more_items, module_written}
 use Rattle.module_parse.specs.Places.{placed, placed_models, placed_bracketed, placed_words, placed_using, placed_binds, placed_list, placed_targets, placed_to, placed_stat, placed_stats, placed_block, placed_start, placed_rule, placed_item, placed_items, placed_module}
+use Rattle.module_parse.specs.Laws.{ReadsBack}
+use Rattle.module_parse.proofs.Accepts.{accepts}
 use Rattle.module_parse.proofs.SaysParts.{IsSome, some_last, models_say, bracketed_say, whole_says, helper_says, sources_say, guard_says, parent_says, using_says}
 
 -- bindings and targets
@@ -332,14 +334,19 @@ items_say (MoreItems is i) f =
     let y = item_says i f.1 in
     rw (more_items_last NoItems (items is) (item i)) ((x.0, y.0), ap (λ l. l ++ (item (item_written (item i)) ∷ [])) x.1 ∙ ap (λ u. items (placed_items is) ++ (u ∷ [])) y.1)
 
--- the marks of what is canonically written have the tree, places aside
-pub canonical : (w : WrittenModule) → ModuleFits false w → IsModule false (module_marks (module_written (module_tree w))) (module_tree (placed_module w))
-canonical (Composed p n q r ts s ss t is) f =
+-- what is canonically written is of the grammar and has the tree, places aside
+module_says : (w : WrittenModule) → ModuleFits false w → ModuleFits false (module_written (module_tree w)) × (module_tree (module_written (module_tree w)) ≡ module_tree (placed_module w))
+module_says (Composed p n q r ts s ss t is) f =
     let x = items_say is f in (
-      module_written (module_tree (Composed p n q r ts s ss t is)),
       x.0,
-      refl,
       ap (λ l. module_of (name_here n) l (models (models_written (models ss))) (items (more_items NoItems (items is)))) (models_say ts)
           ∙ ap (λ l. module_of (name_here n) (models (placed_models ts)) l (items (more_items NoItems (items is)))) (models_say ss)
           ∙ ap (λ l. module_of (name_here n) (models (placed_models ts)) (models (placed_models ss)) l) x.1,
     )
+
+pub canonical : (w : WrittenModule) → ModuleFits false w → IsModule false (module_marks (module_written (module_tree w))) (module_tree (placed_module w))
+canonical w f = let x = module_says w f in (module_written (module_tree w), x.0, refl, x.1)
+
+-- within the limit of depth its marks are read back
+pub read_back : (w : WrittenModule) → ReadsBack w
+read_back w f g = let x = module_says w f in accepts true (module_marks (module_written (module_tree w))) (module_tree (placed_module w)) (module_written (module_tree w), g, refl, x.1)

@@ -31,6 +31,10 @@ pub record Exact (ts : List Mark) : Type 0 where
 abbrev pub IsCanonical : WrittenModule → Type 0
 IsCanonical w = ModuleFits false w → IsModule false (module_marks (module_written (module_tree w))) (module_tree (placed_module w))
 
+-- and where it nests no deeper than the limit, its marks are read back to that tree
+abbrev pub ReadsBack : WrittenModule → Type 0
+ReadsBack w = ModuleFits false w → ModuleFits true (module_written (module_tree w)) → read true (module_marks (module_written (module_tree w))) ≡ Read (module_tree (placed_module w))
+
 -- marks have one tree
 abbrev pub HasOne : List Mark → Type 0
 HasOne ts = (m n : Module) → IsModule true ts m → IsModule true ts n → m ≡ n

@@ -3,7 +3,7 @@ ghost use Rattle.std.specs.Prelude.{List};
 ghost use Rattle.atl_tree.specs.declared.token.Token.{Token as SomeToken};
 ghost use Rattle.module_parse.specs.Marks.{Mark};
 ghost use Rattle.module_parse.specs.Grammar.{WrittenModule};
-ghost use Rattle.module_parse.specs.Laws.{Exact, HasOne, IsCanonical, SharesSymbols};
+ghost use Rattle.module_parse.specs.Laws.{Exact, HasOne, IsCanonical, ReadsBack, SharesSymbols};
 
 /// What is read is a module of the grammar, all of the grammar is read, and a refusal stands where no module goes on.
 pub fn reading_is_exact()
@@ -23,4 +23,9 @@ pub fn marks_have_one_tree()
 /// To an expression the marks of tokens are the tokens' symbols.
 pub fn marks_share_symbols()
     ensures { (ts : List SomeToken) → SharesSymbols ts }
+{}
+
+/// The marks of a module's canonical text are read back to the same module, places aside, where it nests no deeper than the limit.
+pub fn canonical_marks_are_read_back()
+    ensures { (w : WrittenModule) → ReadsBack w }
 {}
