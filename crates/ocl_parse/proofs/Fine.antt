@@ -43,7 +43,7 @@ Got r = ⊥
 got : (x : End) (e : Expr) → x ≡ Read e [] → Got x
 got x e h = subst Got (sym h) tt
 
-over_any : (fs : List Frame) (a e : Expr) → over fs a [] ≡ Read e [] → (rest : List Lexeme) → over fs a rest ≡ Read e rest
+pub over_any : (fs : List Frame) (a e : Expr) → over fs a [] ≡ Read e [] → (rest : List Lexeme) → over fs a rest ≡ Read e rest
 over_any [] a e h rest = ap (λ x. Read (expr_of a x) rest) h
 over_any (F.Left x p o ∷ fs) a e h rest = over_any fs (binary x p o a) e h rest
 over_any (F.Unary o p ∷ fs) a e h rest = over_any fs (unary p o a) e h rest

@@ -479,7 +479,7 @@ module _ (b : Bool) where
   ReadOf all (Expected r) = Unit {0}
   ReadOf all (Deep p) = Unit {0}
 
-  over_stands : (l : ℕ) (fs : List Frame) (e : Expr) (rest all : List Lexeme) (x : Spelt l (deep fs) e) → Admits l fs → Stand fs (spelt x.w ++ rest) all → ReadOf all (over fs e rest)
+  pub over_stands : (l : ℕ) (fs : List Frame) (e : Expr) (rest all : List Lexeme) (x : Spelt l (deep fs) e) → Admits l fs → Stand fs (spelt x.w ++ rest) all → ReadOf all (over fs e rest)
   over_stands l [] e rest all x ad st = (spelt x.w, sym st, (x.w, fits_less x.w l 0 0 (omega arith) x.fits, refl, x.tree))
   over_stands l (F.Left a p o ∷ fs) e rest all x ad st = over_stands (level o) fs (binary a p o e) rest all (two l (deep fs) a p o e ad st.1 x) st.0 (rw (append_assoc (spelt st.1.w) (fixed p (S.Operator o) ∷ spelt x.w) rest) st.2)
   over_stands l (F.Unary o p ∷ fs) e rest all x ad st = over_stands 5 fs (unary p o e) rest all (one l (deep fs) o p e ad st.0 x) (admits_unary fs) st.1

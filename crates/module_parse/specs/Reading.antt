@@ -1,0 +1,54 @@
+-- What the reading of a text gives: its module, or the first refusal.
+use Rattle.std.specs.Prelude.{◌≡◌, ℕ, ◌==◌, Bool, true, false, List, [], ◌∷◌, length, Result, Ok, Err, if◌then◌else◌}
+use Rattle.atl_base.specs.declared.place.Place.{Place}
+use Rattle.atl_tree.specs.declared.token.Token.{Token}
+use Rattle.atl_tree.specs.declared.token.Tokens.{Tokens}
+use Rattle.atl_tree.specs.declared.token.LexRefusal.{LexRefusal}
+use Rattle.atl_tree.specs.declared.module.Module.{Module}
+use Rattle.atl_tree.specs.Tokens.{tokens_of}
+use Rattle.ocl_parse.specs.declared.refusal.ParseRefusal.{ParseRefusal}
+use Rattle.ocl_parse.specs.declared.refusal.ParseRefusal.TheVariants as R
+use Rattle.module_parse.specs.declared.keyword.Keyword.TheVariants as W
+use Rattle.module_parse.specs.Marks.{Content, Word, Mark, marks}
+use Rattle.module_parse.specs.Machine.{End, Read, Expected, Deep, read}
+
+-- whether a mark belongs to a unit of another sort: `query` and `library` where the text begins, `uses` and `refining`
+-- everywhere
+abbrev pub is_other : Bool → Content → Bool
+is_other first (Word W.Query) = first
+is_other first (Word W.Library) = first
+is_other first (Word W.Uses) = true
+is_other first (Word W.Refining) = true
+is_other first t = false
+
+-- the refusal at the first of the rest, of so many marks
+abbrev pub refusal : ℕ → Place → List Mark → ParseRefusal
+refusal n end [] = R.Expected end
+refusal n end (t ∷ rest) = if is_other (length (t ∷ rest) == n) t.content then R.OtherUnit t.place else R.Expected t.place
+
+abbrev pub told : ℕ → Place → End → Result Module ParseRefusal
+told n end (Read m) = Ok m
+told n end (Expected rest) = Err (refusal n end rest)
+told n end (Deep p) = Err (R.TooDeep p)
+
+abbrev pub module_in : List Token → Place → Result Module ParseRefusal
+module_in ts end = told (length ts) end (read true (marks false ts))
+
+abbrev pub parsed : Result Tokens LexRefusal → Result Module ParseRefusal
+parsed (Ok ts) = module_in ts.list ts.end
+parsed (Err e) = Err (R.Lex e)
+
+-- the module of a text's characters
+abbrev pub module_of_text : List ℕ → Result Module ParseRefusal
+module_of_text text = parsed (tokens_of text)
+
+-- a refusal that was answered is the one; want of memory says nothing of the text
+abbrev pub Fails : ParseRefusal → Result Module ParseRefusal → Type 0
+Fails R.Memory r = Unit {0}
+Fails (R.Lex e) r = r ≡ Err (R.Lex e)
+Fails (R.OtherUnit p) r = r ≡ Err (R.OtherUnit p)
+Fails (R.Expected p) r = r ≡ Err (R.Expected p)
+Fails (R.TooDeep p) r = r ≡ Err (R.TooDeep p)
+
+abbrev pub Gives : Module → Result Module ParseRefusal → Type 0
+Gives m r = r ≡ Ok m

@@ -1,0 +1,31 @@
+//! The laws of reading, over the definitions alone. Each function has a law as its contract, and does nothing.
+ghost use Rattle.std.specs.Prelude.{List};
+ghost use Rattle.atl_tree.specs.declared.token.Token.{Token as SomeToken};
+ghost use Rattle.module_parse.specs.Marks.{Mark};
+ghost use Rattle.module_parse.specs.Grammar.{WrittenModule};
+ghost use Rattle.module_parse.specs.Laws.{Exact, HasOne, IsCanonical, ReadsBack, SharesSymbols};
+
+/// What is read is a module of the grammar, all of the grammar is read, and a refusal stands where no module goes on.
+pub fn reading_is_exact()
+    ensures { (ts : List Mark) → Exact ts }
+{}
+
+/// The marks of a module's canonical text are those of the same module, places aside.
+pub fn canonical_marks_have_the_tree()
+    ensures { (w : WrittenModule) → IsCanonical w }
+{}
+
+/// No marks are those of two modules.
+pub fn marks_have_one_tree()
+    ensures { (ts : List Mark) → HasOne ts }
+{}
+
+/// To an expression the marks of tokens are the tokens' symbols.
+pub fn marks_share_symbols()
+    ensures { (ts : List SomeToken) → SharesSymbols ts }
+{}
+
+/// The marks of a module's canonical text are read back to the same module, places aside, where it nests no deeper than the limit.
+pub fn canonical_marks_are_read_back()
+    ensures { (w : WrittenModule) → ReadsBack w }
+{}

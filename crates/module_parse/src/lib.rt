@@ -1,0 +1,5 @@
+//! Modules, read from a text and printed.
+#![tactic(auto)]
+
+pub mod keyword;
+pub mod laws;
