@@ -5,3 +5,4 @@ pub mod Types
 pub mod Rows
 pub mod Faults
 pub mod Parts
+pub mod Entries

@@ -1,0 +1,165 @@
+// The outline of a file: all its elements that a metamodel is made of, in document order, each with the part that it has.
+ghost use Rattle.std.specs.Prelude.{◌≡◌, [], ◌∷◌, ◌++◌, OnOk, IfOk, List};
+ghost use Rattle.doc_text.specs.declared.tree.Element.{Element as SomeElement};
+ghost use Rattle.xmi_read.specs.Markup.{site, sub_elements};
+ghost use Rattle.xmi_read.specs.Outline.{entry, other_children};
+ghost use Rattle.xmi_read.specs.Outline.{is_named as is_named_of, is_passed as is_passed_of, is_generic as is_generic_of, is_quiet as is_quiet_of, is_skipped as is_skipped_of, has_type as has_type_of};
+ghost use Rattle.xmi_read.specs.Entries.{scope_of, entries_of, Leaves1, Leaves2, Leaves3, Leaves4, Leaves5};
+
+use crate::markup::{flag, given};
+use doc_text::tree::{Child, Element, Prefix};
+use std::alloc::{AllocError, Global};
+
+/// The part that an element has in a file.
+#[derive(Clone, Copy, Debug, PartialEq, Eq)]
+pub enum Role {
+    /// The element `xmi:XMI` around packages.
+    Around,
+    Package,
+    Class,
+    Enum,
+    /// A data type of the file's own.
+    Data,
+    Literal,
+    Attribute,
+    Reference,
+    /// An attribute that is derived, volatile or transient.
+    SkippedAttribute,
+    /// Such a reference.
+    SkippedReference,
+    /// A child that names a supertype.
+    Super,
+    /// A child that names the type of a feature.
+    TypeOf,
+    SkippedType,
+    SubPackage,
+    /// What is not of the form.
+    Stray,
+}
+
+/// The declarations that are in force at an element: its own, its parent's, and so on. None of the outline stands
+/// deeper than six.
+#[derive(Clone, Copy)]
+pub(crate) struct Scope<'a> {
+    pub first: &'a [Prefix],
+    pub second: &'a [Prefix],
+    pub third: &'a [Prefix],
+    pub fourth: &'a [Prefix],
+    pub fifth: &'a [Prefix],
+    pub sixth: &'a [Prefix],
+}
+
+/// An element, its part and its declarations in force.
+#[derive(Clone, Copy)]
+pub(crate) struct Entry<'a> {
+    pub role: Role,
+    pub element: &'a Element,
+    pub scope: Scope<'a>,
+}
+
+// The declarations in force at an element below.
+fn within<'a>(outer: Scope<'a>, element: &'a Element) -> Scope<'a>
+    requires { Leaves1 outer }
+    ensures scope { scope_of result ≡ element.now.declared ++ scope_of outer.entry }
+    ensures second { result.second.now ≡ outer.entry.first.now }
+    ensures third { result.third.now ≡ outer.entry.second.now }
+    ensures fourth { result.fourth.now ≡ outer.entry.third.now }
+    ensures fifth { result.fifth.now ≡ outer.entry.fourth.now }
+    ensures sixth { result.sixth.now ≡ outer.entry.fifth.now }
+{
+    Scope {
+        first: element.declared.as_slice(),
+        second: outer.first,
+        third: outer.second,
+        fourth: outer.third,
+        fifth: outer.fourth,
+        sixth: outer.fifth,
+    }
+}
+
+// Adds an element at its scope.
+fn push_entry<'a>(
+    out: &mut Vec<Entry<'a>>,
+    role: Role,
+    element: &'a Element,
+    scope: Scope<'a>,
+) -> Result<(), AllocError>
+    ensures { OnOk result (entries_of out.new.items ≡ entries_of out.old.items ++ (entry role (record { element = element.now; scope = scope_of scope.entry }) ∷ [])) }
+{
+    out.push(Entry {
+        role,
+        element,
+        scope,
+    })?;
+    Ok(())
+}
+
+fn is_named(name: &str, element: &Element) -> bool
+    ensures { result ≡ is_named_of name.now element.now }
+{
+    element.name.as_str() == name
+}
+
+fn is_passed(element: &Element) -> bool
+    ensures { result ≡ is_passed_of element.now }
+{
+    is_named("eAnnotations", element) || is_named("eOperations", element)
+}
+
+/// Whether the name is one of Ecore's generics.
+pub(crate) fn is_generic(name: &str) -> bool
+    ensures { result ≡ is_generic_of name.now }
+{
+    name == "eTypeParameters" || name == "eGenericType" || name == "eGenericSuperTypes"
+}
+
+fn is_quiet(element: &Element) -> bool
+    ensures { result ≡ is_quiet_of element.now }
+{
+    is_passed(element) || is_generic(element.name.as_str())
+}
+
+fn is_skipped(element: &Element) -> bool
+    ensures { result ≡ is_skipped_of element.now }
+{
+    flag("derived", element) || flag("volatile", element) || flag("transient", element)
+}
+
+fn has_type(element: &Element) -> bool
+    ensures { result ≡ has_type_of element.now }
+{
+    given("eType", element).is_some()
+}
+
+// A child that stands for nothing by itself.
+fn push_other_child<'a>(
+    out: &mut Vec<Entry<'a>>,
+    outer: Scope<'a>,
+    element: &'a Element,
+) -> Result<(), AllocError>
+    requires { Leaves1 outer }
+    ensures { OnOk result ((es : List SomeElement) → entries_of out.new.items ++ other_children (scope_of outer.entry) es
+        ≡ entries_of out.old.items ++ other_children (scope_of outer.entry) (element.now ∷ es)) }
+{
+    if is_quiet(element) {
+        return Ok(());
+    }
+    push_entry(out, Role::Stray, element, within(outer, element))
+}
+
+fn push_other_children<'a>(
+    out: &mut Vec<Entry<'a>>,
+    outer: Scope<'a>,
+    children: &'a [Child],
+) -> Result<(), AllocError>
+    requires { Leaves1 outer }
+    ensures { OnOk result (entries_of out.new.items ≡ entries_of out.old.items ++ other_children (scope_of outer.entry) (sub_elements children.now)) }
+{
+    for i in 0..children.len() {
+        match &children[i] {
+            Child::Sub(element) => push_other_child(out, outer, element)?,
+            Child::Words(_) => {}
+        }
+    }
+    Ok(())
+}
