@@ -1,8 +1,9 @@
 // The outline of a file: all its elements that a metamodel is made of, in document order, each with the part that it has.
-ghost use Rattle.std.specs.Prelude.{◌≡◌, [], ◌∷◌, ◌++◌, OnOk, IfOk, List};
+ghost use Rattle.std.specs.Prelude.{◌≡◌, [], ◌∷◌, ◌++◌, ◌&&◌, not, is_some, codes, OnOk, IfOk, List};
 ghost use Rattle.doc_text.specs.declared.tree.Element.{Element as SomeElement};
-ghost use Rattle.xmi_read.specs.Markup.{site, sub_elements};
-ghost use Rattle.xmi_read.specs.Outline.{entry, other_children};
+ghost use Rattle.xmi_read.specs.Markup.{given as given_of, site, sub_elements, is_typed as is_typed_of, names_local as names_local_of, names as names_of, uri_in as uri_in_of};
+ghost use Rattle.xmi_read.specs.Outline.{entry, other_children, feature_children, feature_outline as feature_outline_of, feature as feature_of, class_children, enum_children, classifier as classifier_of, package_children, package_outline as package_outline_of, around_children, outline as outline_of};
+ghost use Rattle.xmi_read.specs.Outline.{is_package as is_package_of, is_around as is_around_of};
 ghost use Rattle.xmi_read.specs.Outline.{is_named as is_named_of, is_passed as is_passed_of, is_generic as is_generic_of, is_quiet as is_quiet_of, is_skipped as is_skipped_of, has_type as has_type_of};
 ghost use Rattle.xmi_read.specs.Entries.{scope_of, entries_of, Leaves1, Leaves2, Leaves3, Leaves4, Leaves5};
 
@@ -162,4 +163,79 @@ fn push_other_children<'a>(
         }
     }
     Ok(())
+}
+
+// The children of a feature. Adds one, and says whether the feature has a type now.
+fn push_feature_child<'a>(
+    out: &mut Vec<Entry<'a>>,
+    role: Role,
+    typed: bool,
+    outer: Scope<'a>,
+    element: &'a Element,
+) -> Result<bool, AllocError>
+    requires { Leaves2 outer }
+    ensures { IfOk result (λ t. (es : List SomeElement) → entries_of out.new.items ++ feature_children role t (scope_of outer.entry) es
+        ≡ entries_of out.old.items ++ feature_children role typed (scope_of outer.entry) (element.now ∷ es)) }
+{
+    if is_quiet(element) {
+        return Ok(typed);
+    }
+    let scope = within(outer, element);
+    if is_type_child(typed, element) {
+        push_entry(out, role, element, scope)?;
+        push_other_children(out, scope, element.children.as_slice())?;
+        return Ok(true);
+    }
+    push_entry(out, Role::Stray, element, scope)?;
+    Ok(typed)
+}
+
+// Whether a child names the type of a feature, which may have one already.
+fn is_type_child(typed: bool, element: &Element) -> bool
+    ensures { result ≡ (is_named_of (codes "eType") element.now && not typed && is_some (given_of (codes "href") element.now)) }
+{
+    is_named("eType", element) && !typed && has_reference(element)
+}
+
+fn has_reference(element: &Element) -> bool
+    ensures { result ≡ is_some (given_of (codes "href") element.now) }
+{
+    given("href", element).is_some()
+}
+
+fn push_feature_children<'a>(
+    out: &mut Vec<Entry<'a>>,
+    role: Role,
+    typed: bool,
+    outer: Scope<'a>,
+    children: &'a [Child],
+) -> Result<(), AllocError>
+    requires { Leaves2 outer }
+    ensures { OnOk result (entries_of out.new.items ≡ entries_of out.old.items ++ feature_children role typed (scope_of outer.entry) (sub_elements children.now)) }
+{
+    let mut has_type = typed;
+    for i in 0..children.len() {
+        match &children[i] {
+            Child::Sub(element) => {
+                has_type = push_feature_child(out, role, has_type, outer, element)?;
+            }
+            Child::Words(_) => {}
+        }
+    }
+    Ok(())
+}
+
+fn push_feature_outline<'a>(
+    out: &mut Vec<Entry<'a>>,
+    role: Role,
+    type_role: Role,
+    element: &'a Element,
+    scope: Scope<'a>,
+) -> Result<(), AllocError>
+    requires { Leaves2 scope }
+    ensures { OnOk result (entries_of out.new.items ≡ entries_of out.old.items ++ feature_outline_of role type_role (record { element = element.now; scope = scope_of scope.entry })) }
+{
+    push_entry(out, role, element, scope)?;
+    let typed = has_type(element);
+    push_feature_children(out, type_role, typed, scope, element.children.as_slice())
 }
