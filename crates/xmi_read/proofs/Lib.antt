@@ -16,3 +16,5 @@ pub mod TypesKnown
 pub mod Opposites
 pub mod Seen
 pub mod Valid
+pub mod Cuts
+pub mod Scopes

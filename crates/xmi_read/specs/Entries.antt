@@ -2,7 +2,7 @@
 use Rattle.std.specs.Prelude.{ℕ, ◌≡◌, List, [], ◌++◌, map}
 use Rattle.doc_text.specs.declared.tree.Prefix.{Prefix}
 use Rattle.xmi_read.specs.declared.outline.Entry.{Entry as CodeEntry}
-use Rattle.xmi_read.specs.declared.outline.Scope.{Scope}
+use Rattle.xmi_read.specs.declared.scope.Scope.{Scope}
 use Rattle.xmi_read.specs.Outline.{Entry, entry}
 
 -- the declarations of an element, of its parent, and so on

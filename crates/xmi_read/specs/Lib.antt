@@ -6,3 +6,4 @@ pub mod Rows
 pub mod Faults
 pub mod Parts
 pub mod Entries
+pub mod Cuts

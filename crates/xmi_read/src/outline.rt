@@ -1,5 +1,5 @@
 // The outline of a file: all its elements that a metamodel is made of, in document order, each with the part that it has.
-ghost use Rattle.std.specs.Prelude.{◌≡◌, [], ◌∷◌, ◌++◌, ◌&&◌, not, is_some, codes, OnOk, IfOk, List};
+ghost use Rattle.std.specs.Prelude.{◌≡◌, [], ◌∷◌, ◌++◌, ◌&&◌, not, is_some, codes, if◌then◌else◌, OnOk, IfOk, List};
 ghost use Rattle.doc_text.specs.declared.tree.Element.{Element as SomeElement};
 ghost use Rattle.xmi_read.specs.Markup.{given as given_of, site, sub_elements, is_typed as is_typed_of, names_local as names_local_of, names as names_of, uri_in as uri_in_of};
 ghost use Rattle.xmi_read.specs.Outline.{entry, other_children, feature_children, feature_outline as feature_outline_of, feature as feature_of, class_children, enum_children, classifier as classifier_of, package_children, package_outline as package_outline_of, around_children, outline as outline_of};
@@ -7,8 +7,10 @@ ghost use Rattle.xmi_read.specs.Outline.{is_package as is_package_of, is_around 
 ghost use Rattle.xmi_read.specs.Outline.{is_named as is_named_of, is_passed as is_passed_of, is_generic as is_generic_of, is_quiet as is_quiet_of, is_skipped as is_skipped_of, has_type as has_type_of};
 ghost use Rattle.xmi_read.specs.Entries.{scope_of, entries_of, Leaves1, Leaves2, Leaves3, Leaves4, Leaves5};
 
-use crate::markup::{flag, given};
-use doc_text::tree::{Child, Element, Prefix};
+use crate::markup::{ECORE, flag, given};
+use crate::scope::{Scope, is_typed, root_scope, within};
+use doc_text::XMI;
+use doc_text::tree::{Child, Doc, Element};
 use std::alloc::{AllocError, Global};
 
 /// The part that an element has in a file.
@@ -38,44 +40,12 @@ pub enum Role {
     Stray,
 }
 
-/// The declarations that are in force at an element: its own, its parent's, and so on. None of the outline stands
-/// deeper than six.
-#[derive(Clone, Copy)]
-pub(crate) struct Scope<'a> {
-    pub first: &'a [Prefix],
-    pub second: &'a [Prefix],
-    pub third: &'a [Prefix],
-    pub fourth: &'a [Prefix],
-    pub fifth: &'a [Prefix],
-    pub sixth: &'a [Prefix],
-}
-
 /// An element, its part and its declarations in force.
 #[derive(Clone, Copy)]
 pub(crate) struct Entry<'a> {
     pub role: Role,
     pub element: &'a Element,
     pub scope: Scope<'a>,
-}
-
-// The declarations in force at an element below.
-fn within<'a>(outer: Scope<'a>, element: &'a Element) -> Scope<'a>
-    requires { Leaves1 outer }
-    ensures scope { scope_of result ≡ element.now.declared ++ scope_of outer.entry }
-    ensures second { result.second.now ≡ outer.entry.first.now }
-    ensures third { result.third.now ≡ outer.entry.second.now }
-    ensures fourth { result.fourth.now ≡ outer.entry.third.now }
-    ensures fifth { result.fifth.now ≡ outer.entry.fourth.now }
-    ensures sixth { result.sixth.now ≡ outer.entry.fifth.now }
-{
-    Scope {
-        first: element.declared.as_slice(),
-        second: outer.first,
-        third: outer.second,
-        fourth: outer.third,
-        fifth: outer.fourth,
-        sixth: outer.fifth,
-    }
 }
 
 // Adds an element at its scope.
@@ -238,4 +208,273 @@ fn push_feature_outline<'a>(
     push_entry(out, role, element, scope)?;
     let typed = has_type(element);
     push_feature_children(out, type_role, typed, scope, element.children.as_slice())
+}
+
+// An attribute or a reference, of the one role or, where it is left out, of the other.
+fn push_kept_or_skipped<'a>(
+    out: &mut Vec<Entry<'a>>,
+    kept: Role,
+    skipped: Role,
+    element: &'a Element,
+    scope: Scope<'a>,
+) -> Result<(), AllocError>
+    requires { Leaves2 scope }
+    ensures { OnOk result (entries_of out.new.items ≡ entries_of out.old.items ++ (if is_skipped_of element.now
+        then feature_outline_of skipped Role.SkippedType (record { element = element.now; scope = scope_of scope.entry })
+        else feature_outline_of kept Role.TypeOf (record { element = element.now; scope = scope_of scope.entry }))) }
+{
+    if is_skipped(element) {
+        return push_feature_outline(out, skipped, Role::SkippedType, element, scope);
+    }
+    push_feature_outline(out, kept, Role::TypeOf, element, scope)
+}
+
+fn push_feature<'a>(
+    out: &mut Vec<Entry<'a>>,
+    element: &'a Element,
+    scope: Scope<'a>,
+) -> Result<(), AllocError>
+    requires { Leaves2 scope }
+    ensures { OnOk result (entries_of out.new.items ≡ entries_of out.old.items ++ feature_of (record { element = element.now; scope = scope_of scope.entry })) }
+{
+    if is_typed("EAttribute", element, &scope) {
+        return push_kept_or_skipped(out, Role::Attribute, Role::SkippedAttribute, element, scope);
+    }
+    if is_typed("EReference", element, &scope) {
+        return push_kept_or_skipped(out, Role::Reference, Role::SkippedReference, element, scope);
+    }
+    push_entry(out, Role::Stray, element, scope)
+}
+
+// Whether a child names a supertype.
+fn is_super(element: &Element) -> bool
+    ensures { result ≡ (is_named_of (codes "eSuperTypes") element.now && is_some (given_of (codes "href") element.now)) }
+{
+    is_named("eSuperTypes", element) && has_reference(element)
+}
+
+fn push_class_child<'a>(
+    out: &mut Vec<Entry<'a>>,
+    outer: Scope<'a>,
+    element: &'a Element,
+) -> Result<(), AllocError>
+    requires { Leaves3 outer }
+    ensures { OnOk result ((es : List SomeElement) → entries_of out.new.items ++ class_children (scope_of outer.entry) es
+        ≡ entries_of out.old.items ++ class_children (scope_of outer.entry) (element.now ∷ es)) }
+{
+    let scope = within(outer, element);
+    if is_named("eStructuralFeatures", element) {
+        return push_feature(out, element, scope);
+    }
+    if is_super(element) {
+        push_entry(out, Role::Super, element, scope)?;
+        return push_other_children(out, scope, element.children.as_slice());
+    }
+    if is_quiet(element) {
+        return Ok(());
+    }
+    push_entry(out, Role::Stray, element, scope)
+}
+
+fn push_enum_child<'a>(
+    out: &mut Vec<Entry<'a>>,
+    outer: Scope<'a>,
+    element: &'a Element,
+) -> Result<(), AllocError>
+    requires { Leaves3 outer }
+    ensures { OnOk result ((es : List SomeElement) → entries_of out.new.items ++ enum_children (scope_of outer.entry) es
+        ≡ entries_of out.old.items ++ enum_children (scope_of outer.entry) (element.now ∷ es)) }
+{
+    let scope = within(outer, element);
+    if is_named("eLiterals", element) {
+        push_entry(out, Role::Literal, element, scope)?;
+        return push_other_children(out, scope, element.children.as_slice());
+    }
+    if is_quiet(element) {
+        return Ok(());
+    }
+    push_entry(out, Role::Stray, element, scope)
+}
+
+fn push_class_children<'a>(
+    out: &mut Vec<Entry<'a>>,
+    outer: Scope<'a>,
+    children: &'a [Child],
+) -> Result<(), AllocError>
+    requires { Leaves3 outer }
+    ensures { OnOk result (entries_of out.new.items ≡ entries_of out.old.items ++ class_children (scope_of outer.entry) (sub_elements children.now)) }
+{
+    for i in 0..children.len() {
+        match &children[i] {
+            Child::Sub(element) => push_class_child(out, outer, element)?,
+            Child::Words(_) => {}
+        }
+    }
+    Ok(())
+}
+
+fn push_enum_children<'a>(
+    out: &mut Vec<Entry<'a>>,
+    outer: Scope<'a>,
+    children: &'a [Child],
+) -> Result<(), AllocError>
+    requires { Leaves3 outer }
+    ensures { OnOk result (entries_of out.new.items ≡ entries_of out.old.items ++ enum_children (scope_of outer.entry) (sub_elements children.now)) }
+{
+    for i in 0..children.len() {
+        match &children[i] {
+            Child::Sub(element) => push_enum_child(out, outer, element)?,
+            Child::Words(_) => {}
+        }
+    }
+    Ok(())
+}
+
+fn push_classifier<'a>(
+    out: &mut Vec<Entry<'a>>,
+    element: &'a Element,
+    scope: Scope<'a>,
+) -> Result<(), AllocError>
+    requires { Leaves3 scope }
+    ensures { OnOk result (entries_of out.new.items ≡ entries_of out.old.items ++ classifier_of (record { element = element.now; scope = scope_of scope.entry })) }
+{
+    let children = element.children.as_slice();
+    if is_typed("EClass", element, &scope) {
+        push_entry(out, Role::Class, element, scope)?;
+        return push_class_children(out, scope, children);
+    }
+    if is_typed("EEnum", element, &scope) {
+        push_entry(out, Role::Enum, element, scope)?;
+        return push_enum_children(out, scope, children);
+    }
+    if is_typed("EDataType", element, &scope) {
+        push_entry(out, Role::Data, element, scope)?;
+        return push_other_children(out, scope, children);
+    }
+    push_entry(out, Role::Stray, element, scope)
+}
+
+fn push_package_child<'a>(
+    out: &mut Vec<Entry<'a>>,
+    outer: Scope<'a>,
+    element: &'a Element,
+) -> Result<(), AllocError>
+    requires { Leaves4 outer }
+    ensures { OnOk result ((es : List SomeElement) → entries_of out.new.items ++ package_children (scope_of outer.entry) es
+        ≡ entries_of out.old.items ++ package_children (scope_of outer.entry) (element.now ∷ es)) }
+{
+    let scope = within(outer, element);
+    if is_named("eClassifiers", element) {
+        return push_classifier(out, element, scope);
+    }
+    if is_named("eSubpackages", element) {
+        return push_entry(out, Role::SubPackage, element, scope);
+    }
+    if is_quiet(element) {
+        return Ok(());
+    }
+    push_entry(out, Role::Stray, element, scope)
+}
+
+fn push_package_children<'a>(
+    out: &mut Vec<Entry<'a>>,
+    outer: Scope<'a>,
+    children: &'a [Child],
+) -> Result<(), AllocError>
+    requires { Leaves4 outer }
+    ensures { OnOk result (entries_of out.new.items ≡ entries_of out.old.items ++ package_children (scope_of outer.entry) (sub_elements children.now)) }
+{
+    for i in 0..children.len() {
+        match &children[i] {
+            Child::Sub(element) => push_package_child(out, outer, element)?,
+            Child::Words(_) => {}
+        }
+    }
+    Ok(())
+}
+
+fn push_package<'a>(
+    out: &mut Vec<Entry<'a>>,
+    element: &'a Element,
+    scope: Scope<'a>,
+) -> Result<(), AllocError>
+    requires { Leaves4 scope }
+    ensures { OnOk result (entries_of out.new.items ≡ entries_of out.old.items ++ package_outline_of (record { element = element.now; scope = scope_of scope.entry })) }
+{
+    push_entry(out, Role::Package, element, scope)?;
+    push_package_children(out, scope, element.children.as_slice())
+}
+
+fn is_package(element: &Element) -> bool
+    ensures { result ≡ is_package_of element.now }
+{
+    element.space.as_str() == ECORE && is_named("EPackage", element)
+}
+
+fn is_around(element: &Element) -> bool
+    ensures { result ≡ is_around_of element.now }
+{
+    element.space.as_str() == XMI && is_named("XMI", element)
+}
+
+fn push_around_child<'a>(
+    out: &mut Vec<Entry<'a>>,
+    outer: Scope<'a>,
+    element: &'a Element,
+) -> Result<(), AllocError>
+    requires { Leaves5 outer }
+    ensures { OnOk result ((es : List SomeElement) → entries_of out.new.items ++ around_children (scope_of outer.entry) es
+        ≡ entries_of out.old.items ++ around_children (scope_of outer.entry) (element.now ∷ es)) }
+{
+    let scope = within(outer, element);
+    if is_package(element) {
+        return push_package(out, element, scope);
+    }
+    push_entry(out, Role::Stray, element, scope)
+}
+
+fn push_around_children<'a>(
+    out: &mut Vec<Entry<'a>>,
+    outer: Scope<'a>,
+    children: &'a [Child],
+) -> Result<(), AllocError>
+    requires { Leaves5 outer }
+    ensures { OnOk result (entries_of out.new.items ≡ entries_of out.old.items ++ around_children (scope_of outer.entry) (sub_elements children.now)) }
+{
+    for i in 0..children.len() {
+        match &children[i] {
+            Child::Sub(element) => push_around_child(out, outer, element)?,
+            Child::Words(_) => {}
+        }
+    }
+    Ok(())
+}
+
+/// The outline of a document.
+pub(crate) fn outline(alloc: Global, doc: &Doc) -> Result<Vec<Entry<'_>>, AllocError>
+    ensures { IfOk result (λ file. entries_of file.items ≡ outline_of doc.now) }
+{
+    let mut out = Vec::new(alloc);
+    let root = &doc.root;
+    push_root(&mut out, root, root_scope(root))?;
+    Ok(out)
+}
+
+fn push_root<'a>(
+    out: &mut Vec<Entry<'a>>,
+    root: &'a Element,
+    scope: Scope<'a>,
+) -> Result<(), AllocError>
+    requires leaves { Leaves5 scope }
+    requires scope { scope_of scope ≡ root.now.declared ++ [] }
+    ensures { OnOk result (entries_of out.new.items ≡ entries_of out.old.items ++ outline_of (record { root = root.now })) }
+{
+    if is_package(root) {
+        return push_package(out, root, scope);
+    }
+    if is_around(root) {
+        push_entry(out, Role::Around, root, scope)?;
+        return push_around_children(out, scope, root.children.as_slice());
+    }
+    push_entry(out, Role::Stray, root, scope)
 }
