@@ -18,3 +18,6 @@ pub mod Seen
 pub mod Valid
 pub mod Cuts
 pub mod Scopes
+pub mod Fragments
+pub mod Capped
+pub mod WordsOf

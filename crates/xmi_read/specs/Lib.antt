@@ -7,3 +7,5 @@ pub mod Faults
 pub mod Parts
 pub mod Entries
 pub mod Cuts
+pub mod Targets
+pub mod Answers

@@ -78,7 +78,7 @@ pub(crate) fn is_bad_flag(element: &Element, name: &str) -> bool
     }
 }
 
-fn is_blank(b: u8) -> bool
+pub(crate) fn is_blank(b: u8) -> bool
     ensures { result ≡ is_blank_of b }
 {
     b == b' ' || b == b'\t' || b == b'\n' || b == b'\r'
