@@ -1,7 +1,7 @@
 -- The parts of a fragment between slashes, by the places where slashes stand.
 use Rattle.std.proofs.Common.{◌≡◌, ℕ, suc, ◌+◌, ◌-◌, ◌<◌, ◌≤◌, List, [], ◌∷◌, length, take, drop, refl, sym, ap, subst, ◌∙◌, arith}
 use Rattle.std.specs.Prelude.{Bool, true, false, ◌==◌, Option, Some, None, if◌then◌else◌}
-use Rattle.xmi_read.specs.References.{parts_of, with_first, path, path_of, Path}
+use Rattle.xmi_read.specs.References.{parts_of, with_first, path, path_of, feature_path_of, Path}
 use Rattle.xmi_read.specs.Cuts.{place_of}
 use Rattle.xmi_read.proofs.Cuts.{rest_cut}
 
@@ -65,3 +65,37 @@ unrooted c cs e = ap (λ b. path_of (if b then [] ∷ parts_of cs else with_firs
     by : (parts : List (List ℕ)) → path_of (with_first c parts) ≡ None
     by [] = refl
     by (p ∷ ps) = refl
+
+-- ## Paths to features
+
+-- what is behind a place
+abbrev pub rest : List ℕ → ℕ → List ℕ
+rest t n = take (length t - (n + 1)) (drop (n + 1) t)
+
+pub one_part : (t : List ℕ) (n : ℕ) → n ≡ place_of 47 t → length t ≤ n → feature_path_of ([] ∷ parts_of t) ≡ None
+one_part t n e h = ap (λ parts. feature_path_of ([] ∷ parts)) (parts_whole t n e h)
+
+pub two_parts : (t : List ℕ) (n m : ℕ) → n ≡ place_of 47 t → n < length t → m ≡ place_of 47 (rest t n) → length (rest t n) ≤ m → feature_path_of ([] ∷ parts_of t) ≡ None
+two_parts t n m e h f g = ap (λ parts. feature_path_of ([] ∷ parts)) (parts_cut t n e h ∙ ap (λ parts. take n t ∷ parts) (parts_whole (rest t n) m f g))
+
+pub three_parts : (t : List ℕ) (n m k : ℕ) → n ≡ place_of 47 t → n < length t → m ≡ place_of 47 (rest t n) → m < length (rest t n)
+    → k ≡ place_of 47 (rest (rest t n) m) → length (rest (rest t n) m) ≤ k
+    → feature_path_of ([] ∷ parts_of t) ≡ Some (path (take n t) (take m (rest t n)), rest (rest t n) m)
+three_parts t n m k e h f g i j =
+    ap (λ parts. feature_path_of ([] ∷ parts))
+    (parts_cut t n e h ∙ ap (λ parts. take n t ∷ parts) (parts_cut (rest t n) m f g ∙ ap (λ parts. take m (rest t n) ∷ parts) (parts_whole (rest (rest t n) m) k i j)))
+
+more_parts : (t first name feature : List ℕ) → feature_path_of ([] ∷ first ∷ (name ∷ (feature ∷ parts_of t))) ≡ None
+more_parts [] first name feature = refl
+more_parts (c ∷ cs) first name feature = elim (c == 47) as (λ b. feature_path_of ([] ∷ first ∷ (name ∷ (feature ∷ (if b then [] ∷ parts_of cs else with_first c (parts_of cs))))) ≡ None) [ true ↦ refl | false ↦ by (parts_of cs) ]
+  where
+    by : (parts : List (List ℕ)) → feature_path_of ([] ∷ first ∷ (name ∷ (feature ∷ with_first c parts))) ≡ None
+    by [] = refl
+    by (p ∷ ps) = refl
+
+pub four_parts : (t : List ℕ) (n m k : ℕ) → n ≡ place_of 47 t → n < length t → m ≡ place_of 47 (rest t n) → m < length (rest t n)
+    → k ≡ place_of 47 (rest (rest t n) m) → k < length (rest (rest t n) m) → feature_path_of ([] ∷ parts_of t) ≡ None
+four_parts t n m k e h f g i j =
+    ap (λ parts. feature_path_of ([] ∷ parts))
+    (parts_cut t n e h ∙ ap (λ parts. take n t ∷ parts) (parts_cut (rest t n) m f g ∙ ap (λ parts. take m (rest t n) ∷ parts) (parts_cut (rest (rest t n) m) k i j)))
+    ∙ more_parts (rest (rest (rest t n) m) k) (take n t) (take m (rest t n)) (take k (rest (rest t n) m))

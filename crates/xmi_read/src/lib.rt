@@ -2,10 +2,12 @@
 #![tactic(auto)]
 
 mod cut;
+mod form;
 pub mod laws;
 mod markup;
 mod numbers;
 mod outline;
+mod own;
 mod references;
 pub mod refusal;
 mod role;

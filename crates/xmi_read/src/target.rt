@@ -38,7 +38,8 @@ fn is_holder(path: &Path<'_>, place: usize, name: &str) -> bool
         || path.holder == name.as_bytes()
 }
 
-fn one_more(count: usize, more: bool) -> usize
+/// A count, and one more where it is so.
+pub(crate) fn one_more(count: usize, more: bool) -> usize
     requires { count < 2 ^ 63 }
     ensures { result ≡ (if more then suc count else count) }
 {
