@@ -9,3 +9,4 @@ pub mod Entries
 pub mod Cuts
 pub mod Targets
 pub mod Answers
+pub mod DataTypes

@@ -2,6 +2,8 @@
 #![tactic(auto)]
 
 mod cut;
+mod data_type;
+mod element_fault;
 mod form;
 pub mod laws;
 mod markup;

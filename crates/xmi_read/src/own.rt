@@ -65,8 +65,8 @@ pub(crate) fn feature_path_of(text: &[u8]) -> Option<FeaturePath<'_>>
     rooted_feature_path(&text[1..])
 }
 
-// Whether so many classes stand before what is within this one.
-fn is_behind(classes: usize, class: usize) -> bool
+/// Whether so many classes, or others that are counted, stand before what is within this one.
+pub(crate) fn is_behind(classes: usize, class: usize) -> bool
     ensures { result ≡ (classes == suc class) }
 {
     if classes == 0 {
