@@ -15,4 +15,5 @@ pub mod refusal;
 mod role;
 mod scope;
 mod target;
+mod typed;
 mod words;
