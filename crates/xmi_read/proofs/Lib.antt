@@ -21,3 +21,4 @@ pub mod Scopes
 pub mod Fragments
 pub mod Capped
 pub mod WordsOf
+pub mod WordCases

@@ -1,18 +1,21 @@
 // The types of features, as an attribute or a child names them.
-ghost use Rattle.std.specs.Prelude.{◌≡◌, map};
-ghost use Rattle.std.specs.Option.{option_copied};
-ghost use Rattle.xmi_read.specs.Rows.{is_type_role, ends_feature as ends_feature_of, href as href_of, type_behind as type_behind_of, or_foreign as or_foreign_of, is_foreign_data as is_foreign_data_of, attribute_child_typed as attribute_child_typed_in, reference_child_typed as reference_child_typed_in, child_typed as child_typed_in, by_data as by_data_of, by_class as by_class_of};
+ghost use Rattle.std.specs.Prelude.{◌≡◌, [], ◌∷◌, List, IfOk, map};
+ghost use Rattle.std.specs.Option.{option_copied, option_map_or};
+ghost use Rattle.doc_text.specs.declared.tree.Prefix.{Prefix};
+ghost use Rattle.xmi_read.specs.Rows.{Untyped, is_type_role, ends_feature as ends_feature_of, href as href_of, type_behind as type_behind_of, or_foreign as or_foreign_of, is_foreign_data as is_foreign_data_of, attribute_child_typed as attribute_child_typed_in, reference_child_typed as reference_child_typed_in, attribute_typed as attribute_typed_in, reference_typed as reference_typed_in, text_typed as text_typed_in, typed as typed_in, child_typed as child_typed_in, by_data as by_data_of, by_class as by_class_of};
 ghost use Rattle.xmi_read.specs.Types.{local_type as local_type_in};
 ghost use Rattle.xmi_read.specs.References.{class_named as class_named_in};
 ghost use Rattle.xmi_read.specs.Entries.{scope_of, entry_of, entries_of};
 ghost use Rattle.xmi_read.specs.DataTypes.{typed_of};
 
 use crate::data_type::{DataType, foreign_type, local_type};
-use crate::markup::given_text;
+use crate::markup::{given, given_text};
 use crate::outline::{Entry, Role};
 use crate::references::names_file;
 use crate::scope::{Scope, names};
 use crate::target::class_named;
+use crate::words::words;
+use std::alloc::{AllocError, Global};
 
 /// The type of a feature.
 #[derive(Clone, Copy)]
@@ -122,5 +125,106 @@ pub(crate) fn child_typed<'a>(role: Role, file: &[Entry<'a>], word: &'a [u8]) ->
     match role {
         Role::Attribute => attribute_child_typed(file, word),
         _ => reference_child_typed(file, word),
+    }
+}
+
+fn attribute_word_typed<'a>(file: &[Entry<'a>], text: &'a [u8], word: &'a [u8]) -> Typed<'a>
+    ensures { (scope : List Prefix) → typed_of result ≡ attribute_typed_in (entries_of file.now) scope text.now (word.now ∷ []) }
+{
+    if names_file(word) {
+        return Typed::Foreign(word);
+    }
+    by_data(file, text, word)
+}
+
+// The type that the words of an attribute's `eType` name.
+fn attribute_typed<'a>(
+    file: &[Entry<'a>],
+    scope: &Scope<'_>,
+    text: &'a [u8],
+    words: &[&'a [u8]],
+) -> Typed<'a>
+    ensures { typed_of result ≡ attribute_typed_in (entries_of file.now) (scope_of scope.now) text.now (map (λ w. w.now) words.now) }
+{
+    match words {
+        [word] => attribute_word_typed(file, text, word),
+        [sort, reference] => {
+            if is_foreign_data(scope, sort, reference) {
+                Typed::Data(foreign_type(reference))
+            } else {
+                or_foreign(words, text)
+            }
+        }
+        _ => or_foreign(words, text),
+    }
+}
+
+fn reference_word_typed<'a>(file: &[Entry<'a>], text: &'a [u8], word: &'a [u8]) -> Typed<'a>
+    ensures { (scope : List Prefix) → typed_of result ≡ reference_typed_in (entries_of file.now) scope text.now (word.now ∷ []) }
+{
+    if names_file(word) {
+        return Typed::Foreign(word);
+    }
+    by_class(file, text, word)
+}
+
+// The type that the words of a reference's `eType` name.
+fn reference_typed<'a>(
+    file: &[Entry<'a>],
+    scope: &Scope<'_>,
+    text: &'a [u8],
+    words: &[&'a [u8]],
+) -> Typed<'a>
+    ensures { typed_of result ≡ reference_typed_in (entries_of file.now) (scope_of scope.now) text.now (map (λ w. w.now) words.now) }
+{
+    match words {
+        [word] => reference_word_typed(file, text, word),
+        [sort, reference] => {
+            if is_foreign_data(scope, sort, reference) {
+                Typed::Untyped(text)
+            } else {
+                or_foreign(words, text)
+            }
+        }
+        _ => or_foreign(words, text),
+    }
+}
+
+fn text_typed<'a>(
+    alloc: Global,
+    file: &[Entry<'a>],
+    entry: &Entry<'a>,
+    text: &'a [u8],
+) -> Result<Typed<'a>, AllocError>
+    ensures { IfOk result (λ t. typed_of t ≡ text_typed_in entry.now.role (entries_of file.now) (scope_of entry.now.scope) text.now) }
+{
+    let words = words(alloc, text)?;
+    match entry.role {
+        Role::Attribute => Ok(attribute_typed(file, &entry.scope, text, &words)),
+        _ => Ok(reference_typed(file, &entry.scope, text, &words)),
+    }
+}
+
+/// The type of a feature, behind which these stand.
+pub(crate) fn type_of<'a>(
+    alloc: Global,
+    file: &[Entry<'a>],
+    entry: &Entry<'a>,
+    behind: &[Entry<'a>],
+) -> Result<Typed<'a>, AllocError>
+    ensures { IfOk result (λ t. typed_of t ≡ typed_in (entries_of file.now) (entry_of entry.now) (entries_of behind.now)) }
+{
+    match given("eType", entry.element) {
+        Some(text) => text_typed(alloc, file, entry, text.bytes()),
+        None => Ok(child_or_untyped(file, entry.role, type_behind(behind))),
+    }
+}
+
+fn child_or_untyped<'a>(file: &[Entry<'a>], role: Role, word: Option<&'a str>) -> Typed<'a>
+    ensures { typed_of result ≡ option_map_or (child_typed_in role (entries_of file.now)) (option_copied word.entry) (Untyped []) }
+{
+    match word {
+        Some(word) => child_typed(role, file, word.as_bytes()),
+        None => Typed::Untyped(&[]),
     }
 }
