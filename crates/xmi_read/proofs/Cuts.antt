@@ -1,7 +1,7 @@
 -- The parts of a text before and behind a character, by the place where the first of it stands.
 use Rattle.std.proofs.Common.{◌≡◌, ℕ, suc, ◌<◌, ◌≤◌, List, [], ◌∷◌, length, take, drop, ◌+◌, ◌-◌, add-one, refl, sym, ap, subst, ◌∙◌, arith}
 use Rattle.std.proofs.lemmas.List.{take_rest, drop_all}
-use Rattle.std.specs.Prelude.{true, false, ◌==◌, Option, Some, None, option_map, if◌then◌else◌}
+use Rattle.std.specs.Prelude.{true, false, ◌==◌, Some, None, option_map, if◌then◌else◌}
 use Rattle.std.specs.Option.{option_map_or}
 use Rattle.doc_text.specs.declared.tree.Prefix.{Prefix}
 use Rattle.xmi_read.specs.Markup.{before_colon, behind_colon, names, names_local}

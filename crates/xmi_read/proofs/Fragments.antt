@@ -1,7 +1,7 @@
 -- The parts of a fragment between slashes, by the places where slashes stand.
 use Rattle.std.proofs.Common.{◌≡◌, ℕ, suc, ◌+◌, ◌-◌, ◌<◌, ◌≤◌, List, [], ◌∷◌, length, take, drop, refl, sym, ap, subst, ◌∙◌, arith}
-use Rattle.std.specs.Prelude.{Bool, true, false, ◌==◌, Option, Some, None, if◌then◌else◌}
-use Rattle.xmi_read.specs.References.{parts_of, with_first, path, path_of, feature_path_of, Path}
+use Rattle.std.specs.Prelude.{true, false, ◌==◌, Some, None, if◌then◌else◌}
+use Rattle.xmi_read.specs.References.{parts_of, with_first, path, path_of, feature_path_of}
 use Rattle.xmi_read.specs.Cuts.{place_of}
 use Rattle.xmi_read.proofs.Cuts.{rest_cut}
 

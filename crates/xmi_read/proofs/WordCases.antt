@@ -2,7 +2,7 @@
 use Rattle.std.proofs.Common.{◌≡◌, ◌≢◌, ℕ, ◌<◌, ◌≤◌, List, [], ◌∷◌, length, get_or, map, refl, arith, Bor}
 use Rattle.doc_text.specs.declared.tree.Prefix.{Prefix}
 use Rattle.xmi_read.specs.Outline.{Entry}
-use Rattle.xmi_read.specs.Rows.{Typed, attribute_typed, reference_typed, or_foreign}
+use Rattle.xmi_read.specs.Rows.{attribute_typed, reference_typed, or_foreign}
 
 pub one : (ws : List (Bor (List ℕ))) (d : Bor (List ℕ)) → 1 ≤ length ws → length ws < 2 → ws ≡ get_or ws 0 d ∷ []
 one [] d h k = absurd (omega (arith, h))

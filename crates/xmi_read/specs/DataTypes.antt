@@ -1,5 +1,4 @@
 -- What the code's data types stand for.
-use Rattle.std.specs.Prelude.{ℕ}
 use Rattle.std.specs.Option.{option_copied}
 use Rattle.ecore_meta.specs.declared.parts.FeatKind.{FeatKind}
 use Rattle.ecore_meta.specs.declared.parts.FeatKind.TheVariants.{Str, Int, Truth, Enum, Opaque}

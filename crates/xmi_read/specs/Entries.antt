@@ -1,5 +1,5 @@
 -- What the code's entries stand for: the same part and element, with the declarations that are in force at it.
-use Rattle.std.specs.Prelude.{ℕ, ◌≡◌, List, [], ◌++◌, map}
+use Rattle.std.specs.Prelude.{◌≡◌, List, [], ◌++◌, map}
 use Rattle.doc_text.specs.declared.tree.Prefix.{Prefix}
 use Rattle.xmi_read.specs.declared.outline.Entry.{Entry as CodeEntry}
 use Rattle.xmi_read.specs.declared.scope.Scope.{Scope}

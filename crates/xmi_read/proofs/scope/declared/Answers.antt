@@ -1,4 +1,3 @@
-use Rattle.std.proofs.Common.{◌≡◌}
 use Rattle.std.specs.Prelude.{bytes_eq}
 use Rattle.xmi_read.proofs.Scopes.{levels}
 use Rattle.xmi_read.proofs.scope.declared.Goals as goal

@@ -1,5 +1,4 @@
-use Rattle.std.proofs.Common.{◌≡◌, sym, ◌∙◌, arith}
-use Rattle.std.proofs.lemmas.Grind.{common_steps}
+use Rattle.std.proofs.Common.{sym, ◌∙◌}
 use Rattle.xmi_read.proofs.Cuts.{names_cut, names_whole}
 use Rattle.xmi_read.proofs.scope.names.Goals as goal
 

@@ -1,4 +1,4 @@
-use Rattle.std.proofs.Common.{◌≡◌, ◌++◌, map, sym, ap, ◌∙◌, arith}
+use Rattle.std.proofs.Common.{◌++◌, map, sym, ap, ◌∙◌, arith}
 use Rattle.xmi_read.proofs.WordsOf.{at_blank, at_letter}
 use Rattle.xmi_read.proofs.words.words.Goals as goal
 use Rattle.xmi_read.proofs.words.words.Goals.{then-is_blank+in_ok-push_word, else-is_blank}
