@@ -13,7 +13,7 @@ use Rattle.ecore_meta.specs.declared.parts.FeatKind.{FeatKind}
 use Rattle.ecore_meta.specs.declared.parts.FeatKind.TheVariants.{Str, Int, Truth, Enum, Opaque, Refer}
 use Rattle.ecore_meta.specs.Valid.{IsDigits, IsIntText, IsTextOf, IsKindWithin, is_reference, number_of}
 use Rattle.xmi_read.specs.Markup.{Site, given, or_empty, words_of, ecore_space}
-use Rattle.xmi_read.specs.Outline.{Entry, Attribute, Reference, entry, is_class_role, is_enum_role, count}
+use Rattle.xmi_read.specs.Outline.{Entry, Attribute, Reference, entry, is_enum_role, count}
 use Rattle.xmi_read.specs.References.{Target, OfClass, OfEnum, OfData, names_file, local_target, class_named}
 use Rattle.xmi_read.specs.Types.{DataType, plain, with_default, typed_by, ecore_types, instance_types, named_types, own_type, foreign_type, file_of, behind_hash, behind_slashes, literal_text, literals_of, first_text, type_of_target, local_type}
 use Rattle.xmi_read.specs.Rows.{Typed, ByData, ByClass, Foreign, Untyped, or_foreign, foreign_word, by_data, by_class, is_foreign_data, attribute_typed, reference_typed, attribute_child_typed, reference_child_typed, text_typed, child_typed, type_behind, typed}
@@ -21,9 +21,10 @@ use Rattle.xmi_read.specs.Parts.{literal_of}
 use Rattle.xmi_read.specs.Faults.{is_digits, is_int_text, is_text_of}
 use Rattle.xmi_read.proofs.Lists.{map-map, to_map}
 use Rattle.xmi_read.proofs.Naming.{differ}
-use Rattle.xmi_read.proofs.Splits.{true-false, false-true, rows, row_at, length-rows}
-use Rattle.xmi_read.proofs.Tables.{tables, class_made, enum_made}
+use Rattle.xmi_read.proofs.Splits.{rows, row_at}
+use Rattle.xmi_read.proofs.Tables.{tables, enum_made, class_count, enum_count}
 use Rattle.xmi_read.proofs.Targets.{then_some, local_within, class_named_within}
+use Rattle.xmi_read.proofs.Tests.{true-false, false-true}
 
 -- ## Texts of numbers
 
@@ -45,12 +46,6 @@ int_is (c ∷ cs) h = by (c == 45) refl h
 
 module _ (file : List Entry) where
   -- ## Enumerations
-
-  pub enum_count : length (tables file).enums ≡ count is_enum_role file
-  enum_count = length-rows is_enum_role (enum_made file) [] file
-
-  pub class_count : length (tables file).classes ≡ count is_class_role file
-  class_count = length-rows is_class_role (class_made file) [] file
 
   abbrev texts : ℕ → List (List ℕ)
   texts n = map (λ l. l.text) (option_map_or (λ d. d.literals) (slice_get (tables file).enums n) [])
@@ -94,26 +89,26 @@ module _ (file : List Entry) where
   AreSound [] = Unit {0}
   AreSound (row ∷ rows) = IsSound row.1 × AreSound rows
 
-  opaque : IsSound (plain Opaque)
-  opaque = record { within = tt; default = tt; data_type = refl }
+  opaque_sound : IsSound (plain Opaque)
+  opaque_sound = record { within = tt; default = tt; data_type = refl }
 
-  text : IsSound (plain Str)
-  text = record { within = tt; default = tt; data_type = refl }
+  text_sound : IsSound (plain Str)
+  text_sound = record { within = tt; default = tt; data_type = refl }
 
-  int : IsSound (plain Int)
-  int = record { within = tt; default = tt; data_type = refl }
+  int_sound : IsSound (plain Int)
+  int_sound = record { within = tt; default = tt; data_type = refl }
 
-  truth : IsSound (plain Truth)
-  truth = record { within = tt; default = tt; data_type = refl }
+  truth_sound : IsSound (plain Truth)
+  truth_sound = record { within = tt; default = tt; data_type = refl }
 
-  zeros : IsSound (with_default Int (codes "0"))
-  zeros = record { within = tt; default = int_is (codes "0") refl; data_type = refl }
+  zeros_sound : IsSound (with_default Int (codes "0"))
+  zeros_sound = record { within = tt; default = int_is (codes "0") refl; data_type = refl }
 
-  wrong : IsSound (with_default Truth (codes "false"))
-  wrong = record { within = tt; default = inr refl; data_type = refl }
+  wrong_sound : IsSound (with_default Truth (codes "false"))
+  wrong_sound = record { within = tt; default = inr refl; data_type = refl }
 
   typed_by_sound : (rows : List (List ℕ × DataType)) (name : List ℕ) → AreSound rows → IsSound (typed_by rows name)
-  typed_by_sound [] name h = opaque
+  typed_by_sound [] name h = opaque_sound
   typed_by_sound (row ∷ rows) name h = by (bytes_eq row.0 name) h.0 (typed_by_sound rows name h.1)
     where
       by : (b : Bool) → IsSound row.1 → IsSound (typed_by rows name) → IsSound (option_map_or (λ row. row.1) (cond b (Some row) (find (λ row. bytes_eq row.0 name) rows)) (plain Opaque))
@@ -122,22 +117,22 @@ module _ (file : List Entry) where
 
   ecore_sound : AreSound ecore_types
   unfolding ecore_types
-  ecore_sound = (text, (zeros, (zeros, (zeros, (zeros, (int, (int, (int, (int, (int, (wrong, (truth, tt))))))))))))
+  ecore_sound = (text_sound, (zeros_sound, (zeros_sound, (zeros_sound, (zeros_sound, (int_sound, (int_sound, (int_sound, (int_sound, (int_sound, (wrong_sound, (truth_sound, tt))))))))))))
 
   instance_sound : AreSound instance_types
   unfolding instance_types
-  instance_sound = (text, (zeros, (zeros, (zeros, (zeros, (int, (int, (int, (int, (wrong, (truth, tt)))))))))))
+  instance_sound = (text_sound, (zeros_sound, (zeros_sound, (zeros_sound, (zeros_sound, (int_sound, (int_sound, (int_sound, (int_sound, (wrong_sound, (truth_sound, tt)))))))))))
 
   named_sound : AreSound named_types
   unfolding named_types
-  named_sound = (text, (int, (truth, tt)))
+  named_sound = (text_sound, (int_sound, (truth_sound, tt)))
 
   foreign_sound : (word : List ℕ) → IsSound (foreign_type word)
   foreign_sound word = by (bytes_eq (file_of word) ecore_space)
     where
       by : (b : Bool) → IsSound (if b then typed_by ecore_types (behind_slashes (behind_hash word)) else plain Opaque)
       by true = typed_by_sound ecore_types (behind_slashes (behind_hash word)) ecore_sound
-      by false = opaque
+      by false = opaque_sound
 
   own_sound : (e : Element) → IsSound (own_type e)
   own_sound e = by (given (codes "instanceClassName") e)
@@ -148,7 +143,7 @@ module _ (file : List Entry) where
 
   enum_sound : (n : ℕ) → n < count is_enum_role file → IsSound (record { kind = Enum n; default = first_text (literals_of file n) })
   enum_sound n h =
-      let here : n < length (tables file).enums = subst (λ k. n < k) (sym enum_count) h in
+      let here : n < length (tables file).enums = subst (λ k. n < k) (sym (enum_count file)) h in
       record {
         within = here;
         default = subst (λ l. IfSome (first_text (literals_of file n)) (Contains l)) (sym (texts_are n here)) (first (literals_of file n));
@@ -194,7 +189,7 @@ module _ (file : List Entry) where
   data_fits text word None h = tt
 
   class_fits : (text word : List ℕ) (o : Option ℕ) → class_named file word ≡ o → ReferenceFits (by_class text o)
-  class_fits text word (Some c) h = subst (λ n. c < n) (sym class_count) (class_named_within file word c h)
+  class_fits text word (Some c) h = subst (λ n. c < n) (sym (class_count file)) (class_named_within file word c h)
   class_fits text word None h = tt
 
   attribute_text : (scope : List Prefix) (text : List ℕ) (words : List (List ℕ)) → AttributeFits (attribute_typed file scope text words)

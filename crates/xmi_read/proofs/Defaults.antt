@@ -19,9 +19,10 @@ use Rattle.xmi_read.proofs.DataTypes.{AttributeFits, ReferenceFits, attribute_fi
 use Rattle.xmi_read.proofs.Lists.{found_passes, found_fails}
 use Rattle.xmi_read.proofs.Roles.{features}
 use Rattle.xmi_read.proofs.Sound.{Fine, fine, some-none}
-use Rattle.xmi_read.proofs.Splits.{true-false, false-true, all_rows, length-rows, count-here}
+use Rattle.xmi_read.proofs.Splits.{all_rows, length-rows, count-here}
 use Rattle.xmi_read.proofs.Tables.{tables, feature_row, feature_made}
 use Rattle.xmi_read.proofs.Targets.{feature_named_at}
+use Rattle.xmi_read.proofs.Tests.{true-false, false-true}
 
 module _ (file : List Entry) where
   -- ## Opposites are features

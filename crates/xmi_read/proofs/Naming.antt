@@ -14,8 +14,9 @@ use Rattle.xmi_read.specs.Parts.{literal_of}
 use Rattle.xmi_read.specs.Faults.{first_fault, is_name, is_bad_name, has_point, is_prefix, is_bad_prefix, is_kept_uri, or_name, uri_of, prefix_of, is_misnamed, is_stray, flags_of}
 use Rattle.xmi_read.proofs.Roles.{packages, classes, enums, literals, features}
 use Rattle.xmi_read.proofs.Sound.{Fine, fine}
-use Rattle.xmi_read.proofs.Splits.{true-false, all_rows}
+use Rattle.xmi_read.proofs.Splits.{all_rows}
 use Rattle.xmi_read.proofs.Tables.{tables, package_made, class_made, feature_made, enum_made}
+use Rattle.xmi_read.proofs.Tests.{true-false}
 
 pub differ : (xs ys : List ℕ) → bytes_eq xs ys ≡ false → xs ≢ ys
 differ xs ys h e = true-false (sym ((bytes_eq-Decides xs ys).1 e) ∙ h)

@@ -18,10 +18,11 @@ use Rattle.xmi_read.specs.Faults.{first_fault, BadOpposite, when, typed_fault, i
 use Rattle.xmi_read.proofs.DataTypes.{AttributeFits, ReferenceFits, attribute_fits, reference_fits}
 use Rattle.xmi_read.proofs.Roles.{features, references}
 use Rattle.xmi_read.proofs.Sound.{fine, not_when, some-none}
-use Rattle.xmi_read.proofs.Splits.{true-false, false-true, rows, row_at, row_here}
+use Rattle.xmi_read.proofs.Splits.{rows, row_at, row_here}
 use Rattle.xmi_read.proofs.Tables.{tables, feature_row, feature_made, the_features}
 use Rattle.xmi_read.proofs.Targets.{KeptAt, feature_named_at}
 use Rattle.xmi_read.proofs.TypesKnown.{type_known}
+use Rattle.xmi_read.proofs.Tests.{true-false, false-true}
 
 no_opposite : (k : FeatKind) → is_reference k ≡ false → opposite_of k ≡ None
 no_opposite (Refer class contains opposite) h = absurd (true-false h)

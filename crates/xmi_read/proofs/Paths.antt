@@ -10,7 +10,7 @@ use Rattle.std.proofs.lemmas.Map.Steps.{length-le_from_distinct_below}
 use Rattle.ecore_meta.specs.Valid.{AllDiffer}
 use Rattle.xmi_read.specs.Rows.{inherits, conforms}
 use Rattle.xmi_read.proofs.Lists.{pairs_cons, pairs_rest}
-use Rattle.xmi_read.proofs.Splits.{true-false}
+use Rattle.xmi_read.proofs.Tests.{true-false}
 
 module _ (supers : List (List ℕ)) where
   -- from class to supertype through these

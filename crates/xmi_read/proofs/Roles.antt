@@ -6,7 +6,7 @@ use Rattle.xmi_read.specs.Outline.{Entry, Role, Package, Class, Enum, Literal, A
 use Rattle.xmi_read.specs.Types.{is_literal_role}
 use Rattle.xmi_read.specs.Rows.{is_type_role}
 use Rattle.xmi_read.specs.Faults.{is_reference_role}
-use Rattle.xmi_read.proofs.Splits.{false-true}
+use Rattle.xmi_read.proofs.Tests.{false-true}
 
 module _ (P : Entry → Type 0) where
   pub packages : ((s : Site) → P (entry Package s)) → (e : Entry) → is_package_role e.role ≡ true → P e

@@ -5,16 +5,6 @@ use Rattle.std.proofs.lemmas.List.{append-nil}
 use Rattle.std.proofs.lemmas.Option.{none-some, same_Some, slice_get-get_or}
 use Rattle.xmi_read.specs.Outline.{Entry, Role, count}
 
-abbrev IsNot : Bool → Type 0
-IsNot true = ⊥
-IsNot false = Unit {0}
-
-pub false-true : false ≡ true → ⊥
-false-true h = subst IsNot h tt
-
-pub true-false : true ≡ false → ⊥
-true-false h = subst IsNot (sym h) tt
-
 -- ## The parts of a list
 
 abbrev first_or : {X : Type 0} → X → List X → X

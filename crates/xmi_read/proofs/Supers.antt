@@ -1,6 +1,6 @@
 -- Supertypes of a file without faults are classes, and no class inherits from itself.
 use Rattle.std.proofs.Common.{◌≡◌, ℕ, ◌<◌, ◌≤◌, List, [], length, get_or, map, sym, ap, ◌∙◌, subst, ⊎_elim, arith}
-use Rattle.std.specs.Prelude.{Bool, true, false, ◌&&◌, Some, None, filter_map, slice_get, Contains}
+use Rattle.std.specs.Prelude.{true, false, Some, None, filter_map, slice_get, Contains}
 use Rattle.std.proofs.lemmas.Bool.{cases_lt}
 use Rattle.std.proofs.lemmas.List.{get_or_past, length-map}
 use Rattle.std.proofs.lemmas.List.Elements.{All-map, All-get_or}
@@ -15,9 +15,10 @@ use Rattle.xmi_read.specs.Faults.{first_fault}
 use Rattle.xmi_read.proofs.Lists.{get_mapped, get_or_map, map-map, in_map, in_filter_map}
 use Rattle.xmi_read.proofs.Paths.{Simple, one, further, passes, conforms_from}
 use Rattle.xmi_read.proofs.Sound.{fine}
-use Rattle.xmi_read.proofs.Splits.{true-false, rows, RowAt, row_at, length-rows}
-use Rattle.xmi_read.proofs.Tables.{tables, class_row, class_made, map-rows, the_classes}
+use Rattle.xmi_read.proofs.Splits.{rows, RowAt, row_at, length-rows}
+use Rattle.xmi_read.proofs.Tables.{tables, class_row, class_made, map-rows, the_classes, class_count}
 use Rattle.xmi_read.proofs.Targets.{class_named_within}
+use Rattle.xmi_read.proofs.Tests.{true-false, right_fails}
 
 module _ (file : List Entry) where
   abbrev numbers_of : ClassRow → List ℕ
@@ -36,9 +37,6 @@ module _ (file : List Entry) where
   pub super_count : length (super_numbers file) ≡ length (tables file).classes
   super_count = length-map (class_rows file) numbers_of ∙ ap length (the_classes file) ∙ length-rows is_class_role class_row [] file ∙ sym (length-rows is_class_role (class_made file) [] file)
 
-  class_count : length (tables file).classes ≡ count is_class_role file
-  class_count = length-rows is_class_role (class_made file) [] file
-
   empty : (s : ℕ) → Contains [] s → ⊥
   empty s m = omega (arith, m.1)
 
@@ -55,7 +53,7 @@ module _ (file : List Entry) where
       (cases_lt c (length (super_numbers file)))
 
   number_within : (c s : ℕ) → Contains (get_or (super_numbers file) c []) s → s < length (super_numbers file)
-  number_within c s m = subst (λ n. s < n) (sym (super_count ∙ class_count)) (row_within c s m)
+  number_within c s m = subst (λ n. s < n) (sym (super_count ∙ class_count file)) (row_within c s m)
 
   -- a supertype by its number
   pub super_number : (c s : ClassId) → Contains (supers_of (tables file).classes c) s → Contains (get_or (super_numbers file) c.0 []) s.0
@@ -64,7 +62,7 @@ module _ (file : List Entry) where
       subst (λ (x : ClassId). Contains (get_or (super_numbers file) c.0 []) x.0) r.2 r.1
 
   pub supers_within : (c s : ClassId) → Contains (supers_of (tables file).classes c) s → s.0 < length (tables file).classes
-  supers_within c s m = subst (λ n. s.0 < n) (sym class_count) (row_within c.0 s.0 (super_number c s m))
+  supers_within c s m = subst (λ n. s.0 < n) (sym (class_count file)) (row_within c.0 s.0 (super_number c s m))
 
   simple : {c d : ClassId} → Conforms (tables file).classes c d → Simple (super_numbers file) c.0 d.0
   simple {c} itself = one (super_numbers file) c.0
@@ -73,10 +71,6 @@ module _ (file : List Entry) where
   -- all inheritance is found
   pub conforms_to : (c d : ClassId) → c.0 < length (tables file).classes → Conforms (tables file).classes c d → conforms (super_numbers file) c.0 d.0 ≡ true
   conforms_to c d l h = conforms_from (super_numbers file) number_within c.0 d.0 (subst (λ n. c.0 < n) (sym super_count) l) (simple h)
-
-  right_fails : (a b : Bool) → a ≡ true → (a && b) ≡ false → b ≡ false
-  right_fails true b h k = k
-  right_fails false b h k = absurd (true-false (sym h))
 
   no_cycle : first_fault file ≡ None → (c : ℕ) (row : ClassRow) → RowAt is_class_role class_row [] file c row → is_own_super (super_numbers file) c ≡ false
   no_cycle none c row w =

@@ -1,5 +1,5 @@
 -- The five lists of a metamodel, each with an item for each element of its sort.
-use Rattle.std.proofs.Common.{◌≡◌, suc, ◌-◌, List, [], ◌∷◌, ◌++◌, map, refl, sym, ap, ◌∙◌}
+use Rattle.std.proofs.Common.{◌≡◌, suc, ◌-◌, List, [], ◌∷◌, ◌++◌, length, map, refl, sym, ap, ◌∙◌}
 use Rattle.std.specs.Prelude.{Bool, true, false, cond, filter, if◌then◌else◌}
 use Rattle.ecore_meta.specs.declared.parts.Class.{Class}
 use Rattle.ecore_meta.specs.declared.parts.EnumDef.{EnumDef}
@@ -11,7 +11,8 @@ use Rattle.xmi_read.specs.Outline.{Entry, Role, Class as ClassRole, Attribute, R
 use Rattle.xmi_read.specs.Types.{literals_of}
 use Rattle.xmi_read.specs.Rows.{ClassRow, class_rows_from, class_rows, super_words, supers_behind, FeatureRow, feature_rows_from, feature_rows, typed}
 use Rattle.xmi_read.specs.Parts.{class_no, package_of, class_of, classes_from, feature_of, literal_of, enums_from, skipped_from, parts_of}
-use Rattle.xmi_read.proofs.Splits.{rows, count-push, count-push_other, false-true}
+use Rattle.xmi_read.proofs.Splits.{rows, count-push, count-push_other, length-rows}
+use Rattle.xmi_read.proofs.Tests.{false-true}
 
 count-next : (of : Role → Bool) (b : List Entry) (e : Entry) → count of (b ++ (e ∷ [])) ≡ (if of e.role then suc (count of b) else count of b)
 count-next of b e = by (of e.role) refl
@@ -174,3 +175,11 @@ module _ (file : List Entry) where
       ∙ ap (λ fs. parts (parts_of file).packages (parts_of file).classes fs tables.enums tables.skipped) fs
       ∙ ap (λ es. parts (parts_of file).packages (parts_of file).classes (parts_of file).features es tables.skipped) es
       ∙ ap (λ ss. parts (parts_of file).packages (parts_of file).classes (parts_of file).features (parts_of file).enums ss) ss
+
+  -- ## How many there are
+
+  pub enum_count : length tables.enums ≡ count is_enum_role file
+  enum_count = length-rows is_enum_role enum_made [] file
+
+  pub class_count : length tables.classes ≡ count is_class_role file
+  class_count = length-rows is_class_role class_made [] file

@@ -1,7 +1,7 @@
 -- No two packages of a file without faults have one namespace or prefix, no two classifiers one name, and no two literals of
 -- one enumeration one name or text.
 use Rattle.std.proofs.Common.{◌≡◌, ◌≢◌, ℕ, suc, ◌+◌, ◌-◌, ◌<◌, ◌≤◌, List, [], ◌∷◌, ◌++◌, length, get_or, map, refl, sym, ap, ◌∙◌, subst, append_assoc, ⊎_elim, arith}
-use Rattle.std.specs.Prelude.{Bool, true, false, ◌&&◌, ◌||◌, ◌==◌, bytes_eq, None, All, AllPairs, if◌then◌else◌}
+use Rattle.std.specs.Prelude.{Bool, true, false, ◌&&◌, ◌==◌, bytes_eq, None, All, AllPairs, if◌then◌else◌}
 use Rattle.std.specs.List.{list_any}
 use Rattle.std.proofs.lemmas.Bool.{or_parts, eqb-true, false_from_ne_true, cases_lt}
 use Rattle.std.proofs.lemmas.List.{append-nil, length-append, get_or_append_left, get_or-append_right, get_or-map, length-map}
@@ -16,8 +16,9 @@ use Rattle.xmi_read.proofs.Lists.{map-map}
 use Rattle.xmi_read.proofs.Naming.{differ}
 use Rattle.xmi_read.proofs.Roles.{packages, classes, enums, literals}
 use Rattle.xmi_read.proofs.Sound.{Fine, fine, not_when, else_parts}
-use Rattle.xmi_read.proofs.Splits.{true-false, false-true, rows, RowAt, get_row, all_rows, pairs_of_rows, Meet, Same, Later, Earlier, meet}
+use Rattle.xmi_read.proofs.Splits.{rows, RowAt, get_row, all_rows, pairs_of_rows, Meet, Same, Later, Earlier, meet}
 use Rattle.xmi_read.proofs.Tables.{tables, package_made, class_made, enum_made, map-rows}
+use Rattle.xmi_read.proofs.Tests.{true-false, false-true, right_fails, both_fail}
 
 -- a test that fails at all of a list fails at each
 pub fails_at : (test : Entry → Bool) (b : List Entry) (d : Entry) (m : List Entry) → list_any test (b ++ (d ∷ m)) ≡ false → test d ≡ false
@@ -68,14 +69,6 @@ module _ (file before : List Entry) (behind : List Entry) where
       (λ s f. not_when (list_any (is_same_literal file (entry Literal s)) (literals_of before (count is_enum_role before - 1))) TwiceName (name_of (entry Literal s)) f.twice)
 
 -- ## Packages
-
-both_fail : (a x y : Bool) → a ≡ true → (a && (x || y)) ≡ false → (x ≡ false) × (y ≡ false)
-both_fail true x y h k = or_parts x y k
-both_fail false x y h k = absurd (false-true h)
-
-right_fails : (a x : Bool) → a ≡ true → (a && x) ≡ false → x ≡ false
-right_fails true x h k = k
-right_fails false x h k = absurd (false-true h)
 
 class_is_classifier : (r : Role) → is_class_role r ≡ true → is_classifier_role r ≡ true
 class_is_classifier Class h = refl

@@ -9,7 +9,7 @@ use Rattle.xmi_read.specs.Rows.{typed, text_typed, child_typed, type_behind, hre
 use Rattle.xmi_read.specs.Faults.{first_fault, typed_fault, feature_type_fault, last_feature}
 use Rattle.xmi_read.proofs.Roles.{features, types}
 use Rattle.xmi_read.proofs.Sound.{Fine, fine}
-use Rattle.xmi_read.proofs.Splits.{true-false}
+use Rattle.xmi_read.proofs.Tests.{true-false}
 
 module _ (file : List Entry) where
   -- the child that names a type, and nothing of another feature before it
