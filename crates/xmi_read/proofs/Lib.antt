@@ -18,3 +18,9 @@ pub mod Tests
 pub mod Twice
 pub mod TypesKnown
 pub mod Valid
+pub mod Cuts
+pub mod Scopes
+pub mod Fragments
+pub mod Capped
+pub mod WordsOf
+pub mod WordCases

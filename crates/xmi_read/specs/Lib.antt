@@ -5,3 +5,8 @@ pub mod Types
 pub mod Rows
 pub mod Faults
 pub mod Parts
+pub mod Entries
+pub mod Cuts
+pub mod Targets
+pub mod Answers
+pub mod DataTypes

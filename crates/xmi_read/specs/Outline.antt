@@ -5,29 +5,9 @@ use Rattle.doc_text.specs.Names.{xmi_space}
 use Rattle.doc_text.specs.declared.tree.Doc.{Doc}
 use Rattle.doc_text.specs.declared.tree.Element.{Element}
 use Rattle.doc_text.specs.declared.tree.Prefix.{Prefix}
+pub use Rattle.xmi_read.specs.declared.outline.Role.{Role}
+pub use Rattle.xmi_read.specs.declared.outline.Role.TheVariants.{Around, Package, Class, Enum, Data, Literal, Attribute, Reference, SkippedAttribute, SkippedReference, Super, TypeOf, SkippedType, SubPackage, Stray}
 use Rattle.xmi_read.specs.Markup.{Site, site, given, or_empty, flag, sub_elements, is_typed, ecore_space}
-
-pub data Role : Type 0 where
-  -- the element `xmi:XMI` around packages
-  Around : Role
-  Package : Role
-  Class : Role
-  Enum : Role
-  -- a data type of the file's own
-  Data : Role
-  Literal : Role
-  Attribute : Role
-  Reference : Role
-  -- an attribute or a reference that is derived, volatile or transient
-  SkippedAttribute : Role
-  SkippedReference : Role
-  -- a child that names a supertype, or the type of a feature
-  Super : Role
-  TypeOf : Role
-  SkippedType : Role
-  SubPackage : Role
-  -- what is not of the form
-  Stray : Role
 
 pub record Entry : Type 0 where
   pub role : Role

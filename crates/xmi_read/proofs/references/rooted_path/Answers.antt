@@ -1,0 +1,11 @@
+use Rattle.xmi_read.proofs.Fragments.{short, long, fits}
+use Rattle.xmi_read.proofs.references.rooted_path.Goals as goal
+
+pub returns-then-at-text : goal.returns-then-at-text
+returns-then-at-text c = short _ _ c.place_of-at.ensures.place c.if-at-text.true
+
+pub returns-then-end-name : goal.returns-then-end-name
+returns-then-end-name c = long _ _ _ c.place_of-at.ensures.place c.if-at-text.false c.place_of-end.ensures.place c.if-end-name.true
+
+pub returns : goal.returns
+returns c = fits _ _ _ c.place_of-at.ensures.place c.if-at-text.false c.place_of-end.ensures.place c.if-end-name.false

@@ -1,0 +1,29 @@
+-- What the code's look-ups stand for.
+use Rattle.std.specs.Prelude.{ℕ, List}
+use Rattle.xmi_read.specs.declared.references.Path.{Path as CodePath}
+use Rattle.xmi_read.specs.declared.target.Stand.{Stand as CodeStand}
+use Rattle.xmi_read.specs.declared.target.Target.{Target as CodeTarget}
+use Rattle.xmi_read.specs.declared.target.Target.TheVariants.{Class, Enum, Data}
+use Rattle.xmi_read.specs.declared.own.FeaturePath.{FeaturePath}
+use Rattle.xmi_read.specs.declared.own.Own.{Own as CodeOwn}
+use Rattle.xmi_read.specs.declared.own.Own.TheVariants.{Kept as CodeKept, Skips as CodeSkips}
+use Rattle.xmi_read.specs.Entries.{entry_of}
+use Rattle.xmi_read.specs.References.{Own, Kept, Skips, Path, path, Stand, Target, OfClass, OfEnum, OfData}
+
+abbrev pub path_of : CodePath → Path
+path_of p = path p.holder.now p.name.now
+
+abbrev pub stand_of : CodeStand → Stand
+stand_of s = record { packages = s.packages; holder = s.holder.now; classes = s.classes; enums = s.enums }
+
+abbrev pub target_of : CodeTarget → Target
+target_of (Class c) = OfClass c
+target_of (Enum e) = OfEnum e
+target_of (Data d) = OfData d.now
+
+abbrev pub feature_path : FeaturePath → Path × List ℕ
+feature_path p = (path_of p.path, p.feature.now)
+
+abbrev pub own_of : CodeOwn → Own
+own_of (CodeKept f e) = Kept f (entry_of e)
+own_of CodeSkips = Skips

@@ -1,0 +1,195 @@
+// The types of attributes: data types of Ecore and of the file, and enumerations, each with the default that it gives.
+ghost use Rattle.std.specs.Prelude.{◌≡◌, ◌∷◌, ℕ, List, MatchOption, None, Some};
+ghost use Rattle.std.specs.Option.{option_copied};
+ghost use Rattle.xmi_read.specs.Types.{plain as plain_of, DataType as SomeDataType, typed_by, ecore_types, instance_types, named_types, own_type as own_type_of, file_of as file_of_word, behind_hash as behind_hash_of, behind_slashes as behind_slashes_of, foreign_type as foreign_type_of, literal_text as literal_text_of, literals_of, first_text, is_literal_role, local_type as local_type_in};
+ghost use Rattle.xmi_read.specs.Entries.{entry_of, entries_of};
+ghost use Rattle.xmi_read.specs.DataTypes.{kind_of, data_type_of};
+
+use crate::cut::place_of;
+use crate::markup::{ECORE, given, given_text};
+use crate::outline::{Entry, Role};
+use crate::own::is_behind;
+use crate::role::{is_enum, name_of};
+use crate::target::{Target, local_target, one_more};
+use doc_text::tree::Element;
+
+/// A sort of attribute; an enumeration by its number.
+#[derive(Clone, Copy)]
+pub(crate) enum DataKind {
+    Str,
+    Int,
+    Truth,
+    Enum(usize),
+    Opaque,
+}
+
+/// A sort of attribute, and the default of its type.
+#[derive(Clone, Copy)]
+pub(crate) struct DataType<'a> {
+    pub kind: DataKind,
+    pub default: Option<&'a str>,
+}
+
+fn plain<'a>(kind: DataKind) -> DataType<'a>
+    ensures { data_type_of result ≡ plain_of (kind_of kind) }
+{
+    DataType {
+        kind,
+        default: None,
+    }
+}
+
+// The type of a row that bears a word, where it is the name, else what the rows behind it give.
+fn by_row<'a>(
+    word: &str,
+    kind: DataKind,
+    default: Option<&'a str>,
+    name: &[u8],
+    behind: DataType<'a>,
+) -> DataType<'a>
+    ensures { (rows : List (List ℕ × SomeDataType)) → data_type_of behind.entry ≡ typed_by rows name.now
+        → data_type_of result ≡ typed_by ((word.now, record { kind = kind_of kind; default = option_copied default.entry }) ∷ rows) name.now }
+{
+    if word.as_bytes() == name {
+        return DataType { kind, default };
+    }
+    behind
+}
+
+fn ecore_type<'a>(name: &[u8]) -> DataType<'a>
+    ensures { data_type_of result ≡ typed_by ecore_types name.now }
+{
+    let found = plain(DataKind::Opaque);
+    let found = by_row("EBooleanObject", DataKind::Truth, None, name, found);
+    let found = by_row("EBoolean", DataKind::Truth, Some("false"), name, found);
+    let found = by_row("EBigInteger", DataKind::Int, None, name, found);
+    let found = by_row("EByteObject", DataKind::Int, None, name, found);
+    let found = by_row("EShortObject", DataKind::Int, None, name, found);
+    let found = by_row("ELongObject", DataKind::Int, None, name, found);
+    let found = by_row("EIntegerObject", DataKind::Int, None, name, found);
+    let found = by_row("EByte", DataKind::Int, Some("0"), name, found);
+    let found = by_row("EShort", DataKind::Int, Some("0"), name, found);
+    let found = by_row("ELong", DataKind::Int, Some("0"), name, found);
+    let found = by_row("EInt", DataKind::Int, Some("0"), name, found);
+    by_row("EString", DataKind::Str, None, name, found)
+}
+
+fn instance_type<'a>(name: &[u8]) -> DataType<'a>
+    ensures { data_type_of result ≡ typed_by instance_types name.now }
+{
+    let found = plain(DataKind::Opaque);
+    let found = by_row("java.lang.Boolean", DataKind::Truth, None, name, found);
+    let found = by_row("boolean", DataKind::Truth, Some("false"), name, found);
+    let found = by_row("java.lang.Byte", DataKind::Int, None, name, found);
+    let found = by_row("java.lang.Short", DataKind::Int, None, name, found);
+    let found = by_row("java.lang.Long", DataKind::Int, None, name, found);
+    let found = by_row("java.lang.Integer", DataKind::Int, None, name, found);
+    let found = by_row("byte", DataKind::Int, Some("0"), name, found);
+    let found = by_row("short", DataKind::Int, Some("0"), name, found);
+    let found = by_row("long", DataKind::Int, Some("0"), name, found);
+    let found = by_row("int", DataKind::Int, Some("0"), name, found);
+    by_row("java.lang.String", DataKind::Str, None, name, found)
+}
+
+fn named_type<'a>(name: &[u8]) -> DataType<'a>
+    ensures { data_type_of result ≡ typed_by named_types name.now }
+{
+    let found = plain(DataKind::Opaque);
+    let found = by_row("Boolean", DataKind::Truth, None, name, found);
+    let found = by_row("Integer", DataKind::Int, None, name, found);
+    by_row("String", DataKind::Str, None, name, found)
+}
+
+/// The type of a data type of the file's own.
+pub(crate) fn own_type<'a>(element: &Element) -> DataType<'a>
+    ensures { data_type_of result ≡ own_type_of element.now }
+{
+    match given("instanceClassName", element) {
+        Some(name) => instance_type(name.bytes()),
+        None => named_type(given_text("name", element).as_bytes()),
+    }
+}
+
+// The text of a literal: its own, else its name.
+fn literal_text<'a>(entry: &Entry<'a>) -> &'a str
+    ensures { result.now ≡ literal_text_of (entry_of entry.now) }
+{
+    match given("literal", entry.element) {
+        Some(text) => text.as_str(),
+        None => name_of(entry),
+    }
+}
+
+// The file that a reference names.
+fn file_of(word: &[u8]) -> &[u8]
+    ensures { result.now ≡ file_of_word word.now }
+{
+    let at = place_of(b'#', word);
+    &word[..at]
+}
+
+fn behind_hash(word: &[u8]) -> &[u8]
+    ensures { result.now ≡ behind_hash_of word.now }
+{
+    let at = place_of(b'#', word);
+    if at < word.len() {
+        return &word[at + 1..];
+    }
+    &[]
+}
+
+fn behind_slashes(word: &[u8]) -> &[u8]
+    ensures { result.now ≡ behind_slashes_of word.now }
+{
+    match word {
+        [a, b, rest @ ..] => { if *a == b'/' && *b == b'/' { rest } else { &[] } }
+        _ => &[],
+    }
+}
+
+/// The type of a data type of another file.
+pub(crate) fn foreign_type<'a>(word: &[u8]) -> DataType<'a>
+    ensures { data_type_of result ≡ foreign_type_of word.now }
+{
+    if file_of(word) == ECORE.as_bytes() {
+        return ecore_type(behind_slashes(behind_hash(word)));
+    }
+    plain(DataKind::Opaque)
+}
+
+fn is_literal(role: Role) -> bool
+    ensures { result ≡ is_literal_role role }
+{
+    matches!(role, Role::Literal)
+}
+
+// The text of an enumeration's first literal.
+fn first_literal<'a>(file: &[Entry<'a>], enumeration: usize) -> Option<&'a str>
+    ensures { option_copied result ≡ first_text (literals_of (entries_of file.now) enumeration) }
+{
+    let mut enums = 0;
+    for i in 0..file.len() {
+        let entry = &file[i];
+        if !is_enum(entry.role) && is_literal(entry.role) && is_behind(enums, enumeration) {
+            return Some(literal_text(entry));
+        }
+        enums = one_more(enums, is_enum(entry.role));
+    }
+    None
+}
+
+/// The type that a word names in its file.
+pub(crate) fn local_type<'a>(file: &[Entry<'a>], word: &[u8]) -> Option<DataType<'a>>
+    ensures { MatchOption result (local_type_in (entries_of file.now) word.now ≡ None)
+        (λ t. local_type_in (entries_of file.now) word.now ≡ Some (data_type_of t)) }
+{
+    match local_target(file, word) {
+        Some(Target::Class(_)) => None,
+        Some(Target::Enum(place)) => Some(DataType {
+            kind: DataKind::Enum(place),
+            default: first_literal(file, place),
+        }),
+        Some(Target::Data(element)) => Some(own_type(element)),
+        None => None,
+    }
+}

@@ -1,0 +1,50 @@
+// Entries by their parts.
+ghost use Rattle.std.specs.Prelude.{◌≡◌};
+ghost use Rattle.xmi_read.specs.Outline.{is_package_role as is_package_of, is_class_role as is_class_of, is_enum_role as is_enum_of, is_classifier_role as is_classifier_of, is_feature_role as is_feature_of, is_skipped_role as is_skipped_of, name_of as name_of_entry};
+ghost use Rattle.xmi_read.specs.Entries.{entry_of};
+
+use crate::markup::given_text;
+use crate::outline::{Entry, Role};
+
+pub(crate) fn is_package(role: Role) -> bool
+    ensures { result ≡ is_package_of role }
+{
+    matches!(role, Role::Package)
+}
+
+pub(crate) fn is_class(role: Role) -> bool
+    ensures { result ≡ is_class_of role }
+{
+    matches!(role, Role::Class)
+}
+
+pub(crate) fn is_enum(role: Role) -> bool
+    ensures { result ≡ is_enum_of role }
+{
+    matches!(role, Role::Enum)
+}
+
+pub(crate) fn is_classifier(role: Role) -> bool
+    ensures { result ≡ is_classifier_of role }
+{
+    matches!(role, Role::Class | Role::Enum | Role::Data)
+}
+
+pub(crate) fn is_feature(role: Role) -> bool
+    ensures { result ≡ is_feature_of role }
+{
+    matches!(role, Role::Attribute | Role::Reference)
+}
+
+pub(crate) fn is_skipped(role: Role) -> bool
+    ensures { result ≡ is_skipped_of role }
+{
+    matches!(role, Role::SkippedAttribute | Role::SkippedReference)
+}
+
+/// The name of an element, and empty where it has none.
+pub(crate) fn name_of<'a>(entry: &Entry<'a>) -> &'a str
+    ensures { result.now ≡ name_of_entry (entry_of entry.now) }
+{
+    given_text("name", entry.element)
+}

@@ -1,0 +1,125 @@
+// The namespace declarations in force at an element, and the names that are read by them.
+ghost use Rattle.std.specs.Prelude.{◌≡◌, false, [], ◌++◌, find, bytes_eq};
+ghost use Rattle.std.specs.Option.{option_copied, option_or, option_map_or};
+ghost use Rattle.xmi_read.specs.Markup.{is_text, ecore_space, uri_in, names_local as names_local_of, names as names_of, is_typed as is_typed_of};
+ghost use Rattle.xmi_read.specs.Entries.{scope_of, Leaves1, Leaves5};
+
+use crate::cut::place_of;
+use crate::markup::{ECORE, XSI, given_in};
+use doc_text::tree::{Element, Prefix};
+
+/// The declarations that are in force at an element: its own, its parent's, and so on. None of the outline stands
+/// deeper than six.
+#[derive(Clone, Copy)]
+pub(crate) struct Scope<'a> {
+    pub first: &'a [Prefix],
+    pub second: &'a [Prefix],
+    pub third: &'a [Prefix],
+    pub fourth: &'a [Prefix],
+    pub fifth: &'a [Prefix],
+    pub sixth: &'a [Prefix],
+}
+
+/// The declarations in force at an element below.
+pub(crate) fn within<'a>(outer: Scope<'a>, element: &'a Element) -> Scope<'a>
+    requires { Leaves1 outer }
+    ensures scope { scope_of result ≡ element.now.declared ++ scope_of outer.entry }
+    ensures second { result.second.now ≡ outer.entry.first.now }
+    ensures third { result.third.now ≡ outer.entry.second.now }
+    ensures fourth { result.fourth.now ≡ outer.entry.third.now }
+    ensures fifth { result.fifth.now ≡ outer.entry.fourth.now }
+    ensures sixth { result.sixth.now ≡ outer.entry.fifth.now }
+{
+    Scope {
+        first: element.declared.as_slice(),
+        second: outer.first,
+        third: outer.second,
+        fourth: outer.third,
+        fifth: outer.fourth,
+        sixth: outer.fifth,
+    }
+}
+
+/// The declarations in force at the root.
+pub(crate) fn root_scope<'a>(root: &'a Element) -> Scope<'a>
+    ensures scope { scope_of result ≡ root.now.declared ++ [] }
+    ensures leaves { Leaves5 result }
+{
+    Scope {
+        first: root.declared.as_slice(),
+        second: &[],
+        third: &[],
+        fourth: &[],
+        fifth: &[],
+        sixth: &[],
+    }
+}
+
+fn declared_in<'a>(declared: &'a [Prefix], prefix: &[u8]) -> Option<&'a Prefix>
+    ensures { option_copied result ≡ find (λ d. bytes_eq d.prefix prefix.now) declared.now }
+{
+    declared.iter().find(|d| d.prefix.bytes() == prefix)
+}
+
+// What is found already, or else the first here.
+fn or_declared<'a>(
+    inner: Option<&'a Prefix>,
+    outer: &'a [Prefix],
+    prefix: &[u8],
+) -> Option<&'a Prefix>
+    ensures { option_copied result ≡ option_or (option_copied inner.entry) (find (λ d. bytes_eq d.prefix prefix.now) outer.now) }
+{
+    match inner {
+        Some(found) => Some(found),
+        None => declared_in(outer, prefix),
+    }
+}
+
+// The innermost declaration of a prefix.
+fn declared<'a>(scope: &Scope<'a>, prefix: &[u8]) -> Option<&'a Prefix>
+    ensures { option_copied result ≡ find (λ d. bytes_eq d.prefix prefix.now) (scope_of scope.now) }
+{
+    let one = declared_in(scope.first, prefix);
+    let two = or_declared(one, scope.second, prefix);
+    let three = or_declared(two, scope.third, prefix);
+    let four = or_declared(three, scope.fourth, prefix);
+    let five = or_declared(four, scope.fifth, prefix);
+    or_declared(five, scope.sixth, prefix)
+}
+
+// Whether a prefix stands for Ecore's namespace.
+fn is_ecore_prefix(scope: &Scope<'_>, prefix: &[u8]) -> bool
+    ensures { result ≡ option_map_or (is_text ecore_space) (uri_in (scope_of scope.now) prefix.now) false }
+{
+    match declared(scope, prefix) {
+        Some(found) => found.uri.as_str() == ECORE,
+        None => false,
+    }
+}
+
+fn names_local(scope: &Scope<'_>, prefix: &[u8], local: &[u8], name: &str) -> bool
+    ensures { result ≡ names_local_of (scope_of scope.now) prefix.now local.now name.now }
+{
+    is_ecore_prefix(scope, prefix) && local == name.as_bytes()
+}
+
+/// Whether a text in an attribute names this, in Ecore's namespace.
+pub(crate) fn names(scope: &Scope<'_>, text: &[u8], name: &str) -> bool
+    ensures { result ≡ names_of (scope_of scope.now) text.now name.now }
+{
+    let at = place_of(b':', text);
+    if at < text.len() {
+        return names_local(scope, &text[..at], &text[at + 1..], name);
+    }
+    names_local(scope, &[], text, name)
+}
+
+/// Whether an element has this type of Ecore's.
+pub(crate) fn is_typed(name: &str, element: &Element, scope: &Scope<'_>) -> bool
+    ensures { result ≡ is_typed_of name.now (record { element = element.now; scope = scope_of scope.now }) }
+{
+    match given_in(XSI, "type", element) {
+        Some(text) => names(scope, text.bytes(), name),
+        None => false,
+    }
+}
