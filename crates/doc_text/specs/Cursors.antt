@@ -1,5 +1,5 @@
 -- What is left of a document's characters: with their places, and with the place after the last.
-use Rattle.std.specs.Prelude.{ℕ, ◌≤◌, ◌+◌, List, ◌∷◌, ◌++◌, length, Bool, true, false}
+use Rattle.std.specs.Prelude.{ℕ, ◌≤◌, ◌+◌, List, ◌∷◌, length, Bool, true, false}
 use Rattle.atl_base.specs.declared.place.Place.{Place}
 use Rattle.doc_text.specs.Symbols.{Symbol}
 use Rattle.doc_text.specs.Characters.{placed, end_place}

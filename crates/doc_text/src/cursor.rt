@@ -1,5 +1,5 @@
 // The characters of a document, one after another, with their places.
-ghost use Rattle.std.specs.Prelude.{◌≡◌, ◌≤◌, ◌+◌, ◌++◌, ◌∷◌, [], ℕ, false, length, MatchOption, Bool};
+ghost use Rattle.std.specs.Prelude.{◌≡◌, ◌≤◌, ◌++◌, ◌∷◌, [], ℕ, length, MatchOption, Bool};
 ghost use Rattle.doc_text.specs.Characters.{tail, place, symbols as symbols_of, end_of};
 ghost use Rattle.doc_text.specs.Cursors.{before, rest_at, rest_after};
 ghost use Rattle.doc_text.specs.Sources.{coming};
@@ -149,5 +149,61 @@ impl<'a> Cursor<'a> {
             line: self.line,
             column: self.column,
         }
+    }
+}
+
+#[cfg(test)]
+mod tests {
+    use super::*;
+
+    // How many characters there are, the last of them, and the place after it.
+    fn last(bytes: &[u8]) -> Option<(usize, Option<Symbol>, Place)> {
+        if bytes.len() > 64 {
+            return None;
+        }
+        let mut cursor = Cursor::new(bytes);
+        let mut last = None;
+        for count in 0..65 {
+            match cursor.next() {
+                Some(symbol) => last = Some(symbol),
+                None => return Some((count, last, cursor.end())),
+            }
+        }
+        None
+    }
+
+    #[test]
+    fn characters_have_their_places(rt: HostRuntime) {
+        let cases: [(&[u8], usize, Kind, Place, Place); 8] = [
+            // the last kind and its place, and the end's place
+            (b"<a", 2, Kind::Letter('a'), place(1, 2), place(1, 3)),
+            (b"\xEF\xBB\xBF<", 1, Kind::Less, place(1, 1), place(1, 2)),
+            (b"\xC3\xA9-", 2, Kind::Dash, place(1, 2), place(1, 3)),
+            (b"\r\n-", 2, Kind::Dash, place(2, 1), place(2, 2)),
+            (b"\r-", 2, Kind::Dash, place(1, 2), place(1, 3)),
+            (b"a\xFFb", 2, Kind::Bad, place(1, 2), place(1, 3)),
+            (
+                b"<?xml version='1.0' encoding='Latin1'?>\xE9",
+                40,
+                Kind::Bad,
+                place(1, 40),
+                place(1, 41),
+            ),
+            (
+                b"<?xml version=\"1.0\" encoding=\"iso-8859-1\"?>\xE9",
+                44,
+                Kind::Letter('\u{E9}'),
+                place(1, 44),
+                place(1, 45),
+            ),
+        ];
+        for (bytes, count, kind, at, end) in cases {
+            assert!(rt; last(bytes) == Some((count, Some(Symbol { kind, at }), end)));
+        }
+        assert!(rt; last(b"") == Some((0, None, place(1, 1))));
+    }
+
+    fn place(line: u32, column: u32) -> Place {
+        Place { line, column }
     }
 }

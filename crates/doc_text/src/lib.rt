@@ -7,6 +7,7 @@ mod cursor;
 mod declarations;
 pub mod encoding;
 mod escape;
+mod growing;
 pub mod laws;
 pub mod pairs;
 mod reading;

@@ -52,6 +52,6 @@ pub fn read_doc(alloc: Global, bytes: &[u8]) -> Result<Doc, DocRefusal>
     ensures { IsAnswer bytes.now result }
 {
     let Open { tag, children } = read_root(alloc, bytes)?;
-    let root = resolve(alloc, tag, children)?;
+    let root = resolve(alloc, tag, children.into_items())?;
     Ok(Doc { root })
 }

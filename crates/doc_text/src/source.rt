@@ -1,8 +1,8 @@
 // From bytes to characters.
-ghost use Rattle.std.specs.Prelude.{◌≡◌, ◌≤◌, ◌++◌, ◌∷◌, [], length, take, MatchOption, ◌⊎◌};
+ghost use Rattle.std.specs.Prelude.{◌≡◌, ◌≤◌, ◌∷◌, [], length, take, MatchOption, ◌⊎◌};
 ghost use Rattle.std.specs.Str.{chars, IsValidUpTo};
-ghost use Rattle.doc_text.specs.Characters.{tail, decoded, ascii, without_mark as without_mark_of, is_wide as is_wide_of, characters};
-ghost use Rattle.doc_text.specs.Encodings.{Utf8, Ascii, Latin, encoding_of as encoding_of_bytes};
+ghost use Rattle.doc_text.specs.Characters.{decoded, ascii, without_mark as without_mark_of, is_wide as is_wide_of, characters};
+ghost use Rattle.doc_text.specs.Encodings.{Utf8, encoding_of as encoding_of_bytes};
 ghost use Rattle.doc_text.specs.Sources.{coming, letters};
 
 use crate::encoding::{Encoding, encoding_of};
@@ -129,4 +129,16 @@ pub fn characters_of(bytes: &[u8]) -> Decoded<'_>
     ensures number { length (letters result) ≤ length bytes.now }
 {
     decode(without_mark(bytes))
+}
+
+#[cfg(test)]
+mod tests {
+    use super::*;
+
+    #[test]
+    fn marks_of_two_bytes_are_wide(rt: HostRuntime) {
+        assert!(rt; is_wide(b"\xFF\xFE<"));
+        assert!(rt; is_wide(b"\xFE\xFF"));
+        assert!(rt; !is_wide(b"<"));
+    }
 }

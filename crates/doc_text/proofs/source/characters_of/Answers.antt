@@ -1,4 +1,4 @@
-use Rattle.std.proofs.Common.{◌≡◌, ◌≤◌, length, ap, arith}
+use Rattle.std.proofs.Common.{◌≡◌, length, ap, arith}
 use Rattle.doc_text.specs.Encodings.{encoding_of}
 use Rattle.doc_text.specs.Characters.{decoded, without_mark}
 use Rattle.doc_text.specs.Sources.{letters}

@@ -1,6 +1,6 @@
-use Rattle.std.proofs.Common.{◌≡◌, ◌++◌, ◌∙◌, [], ap, sym}
-use Rattle.doc_text.specs.Characters.{place, tail}
-use Rattle.doc_text.specs.Cursors.{Rest, rest_at}
+use Rattle.std.proofs.Common.{◌≡◌, ◌++◌, ◌∙◌, ap}
+use Rattle.doc_text.specs.Characters.{tail}
+use Rattle.doc_text.specs.Cursors.{rest_at}
 use Rattle.doc_text.specs.Sources.{coming}
 use Rattle.doc_text.proofs.Placing.{at_end}
 use Rattle.doc_text.proofs.cursor.Cursor.end.Goals as goal
