@@ -1,4 +1,4 @@
-use Rattle.std.proofs.Common.{◌≡◌, ◌∷◌, ◌∙◌, ap}
+use Rattle.std.proofs.Common.{◌∷◌, ◌∙◌, ap}
 use Rattle.std.specs.Prelude.{true}
 use Rattle.doc_text.specs.Machine.{Refused, run}
 use Rattle.doc_text.specs.Nexts.{state_of, step_of}
