@@ -34,6 +34,7 @@ pub mod Paths
 pub mod RawTrees
 pub mod Stacks
 pub mod Moves
+pub mod Placing
 pub mod Sounds
 pub mod Refusals
 pub mod Running

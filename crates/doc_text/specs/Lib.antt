@@ -24,6 +24,8 @@ pub mod Machine
 pub mod Laws
 pub mod Encodings
 pub mod Characters
+pub mod Sources
+pub mod Cursors
 pub mod Reading
 pub mod ReadBack
 pub mod Answers

@@ -2,14 +2,17 @@
 //! document is read, and how one is written.
 #![tactic(auto)]
 
-pub mod characters;
+mod characters;
+mod cursor;
 mod declarations;
 pub mod encoding;
 mod escape;
+mod growing;
 pub mod laws;
 pub mod pairs;
 mod reading;
 pub mod refusal;
+mod source;
 pub mod state;
 pub mod symbol;
 #[cfg(test)]

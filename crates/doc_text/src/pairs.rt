@@ -5,6 +5,7 @@ ghost use Rattle.doc_text.specs.Declarations.{declared_prefix as declared_prefix
 ghost use Rattle.doc_text.specs.DeclarationIndex.{place_in as place_in_index};
 
 use crate::declarations::{declared_prefix, is_declaration};
+use crate::growing::Growing;
 use crate::state::Pair;
 use sqlite_items::Items;
 use std::alloc::{AllocError, Global};
@@ -15,7 +16,7 @@ use std::marker::Model;
 /// found by its prefix in a time that does not grow with their number.
 #[derive(Debug, Drop)]
 pub struct Pairs {
-    items: Items<Pair>,
+    items: Growing<Pair>,
     // Where each prefix is declared first.
     declared: Option<Box<HashMap<String, usize>>>,
     alloc: Global,
@@ -91,7 +92,7 @@ impl Pairs {
         ensures { result ≡ [] }
     {
         Pairs {
-            items: Items::new(alloc),
+            items: Growing::new(alloc),
             declared: None,
             alloc,
         }
@@ -114,7 +115,7 @@ impl Pairs {
         ensures { result ≡ self }
     {
         let Pairs { items, .. } = self;
-        items
+        items.into_items()
     }
 
     /// The place, from 0, of the first attribute that declares a prefix.

@@ -25,11 +25,12 @@ mod tags;
 mod tests;
 mod why;
 
-use crate::characters::{is_wide, read_characters};
+use crate::cursor::Cursor;
 use crate::reading::open::Open;
 use crate::reading::resolve::resolve;
 use crate::reading::run::run;
 use crate::refusal::DocRefusal;
+use crate::source::is_wide;
 use crate::tree::Doc;
 use atl_base::place::Place;
 use std::alloc::Global;
@@ -42,8 +43,7 @@ fn read_root(alloc: Global, bytes: &[u8]) -> Result<Open, DocRefusal>
     if is_wide(bytes) {
         return Err(DocRefusal::BadEncoding(Place { line: 1, column: 1 }));
     }
-    let characters = read_characters(alloc, bytes)?;
-    run(alloc, &characters.symbols, characters.end)
+    run(alloc, Cursor::new(bytes))
 }
 
 /// The document that these bytes are, at most 4,294,967,294 of them.
@@ -52,6 +52,6 @@ pub fn read_doc(alloc: Global, bytes: &[u8]) -> Result<Doc, DocRefusal>
     ensures { IsAnswer bytes.now result }
 {
     let Open { tag, children } = read_root(alloc, bytes)?;
-    let root = resolve(alloc, tag, children)?;
+    let root = resolve(alloc, tag, children.into_items())?;
     Ok(Doc { root })
 }

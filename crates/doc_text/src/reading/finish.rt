@@ -19,7 +19,7 @@ use crate::refusal::DocRefusal;
 use crate::state::{Cited, Name, Start};
 use atl_base::place::Place;
 use atl_base::text::Text;
-use sqlite_items::Items;
+use sqlite_items::{Boxed, Items};
 use std::alloc::Global;
 
 // Only after the root the text may end.
@@ -38,7 +38,7 @@ fn finish_content(content: Content, end: Place) -> Result<Open, DocRefusal>
 fn finish_end(innermost: &Open, name: &Name, end: Place) -> DocRefusal
     ensures { IsRefusal (after (matched true (open_of innermost.now) name.now Stops) (Expected, end) (λ s. Refused (Expected, end))) result }
 {
-    if same_name(name, &innermost.tag.name) {
+    if same_name(name, &innermost.tag.get().name) {
         return DocRefusal::Expected(end);
     }
     DocRefusal::MismatchedEnd(name.at)
@@ -156,14 +156,14 @@ fn finish_declaration(declaration: Declaration, end: Place) -> DocRefusal
 }
 
 // In a start tag.
-fn finish_start(_outer: Items<Open>, _tag: Start, end: Place) -> DocRefusal
+fn finish_start(_outer: Items<Open>, _tag: Boxed<Start>, end: Place) -> DocRefusal
     ensures { result ≡ R.Expected end }
 {
     DocRefusal::Expected(end)
 }
 
 // In an attribute.
-fn finish_attribute(outer: Items<Open>, tag: Start, _name: Name, end: Place) -> DocRefusal
+fn finish_attribute(outer: Items<Open>, tag: Boxed<Start>, _name: Name, end: Place) -> DocRefusal
     ensures { result ≡ R.Expected end }
 {
     finish_start(outer, tag, end)

@@ -76,7 +76,7 @@ fn outer_uri<'a>(prefix: &Text, outer: &'a [Open]) -> Option<Space<'a>>
     ensures { option_map uri result ≡ uri_of_prefix prefix.now (tags (stack_of outer.now)) }
 {
     for i in (0..outer.len()).rev() {
-        if let Some(found) = own_uri(prefix, &outer[i].tag.pairs) {
+        if let Some(found) = own_uri(prefix, &outer[i].tag.get().pairs) {
             return Some(Space::Declared(found));
         }
     }

@@ -18,7 +18,7 @@ use crate::state::{Name, Start};
 use crate::symbol::{Kind, Symbol};
 use atl_base::place::Place;
 use atl_base::text::Text;
-use sqlite_items::Items;
+use sqlite_items::{Boxed, Items};
 use std::alloc::{AllocError, Global};
 
 /// Names that are written alike.
@@ -32,7 +32,7 @@ pub fn same_name(one: &Name, other: &Name) -> bool
 fn matched(innermost: Open, outer: Items<Open>, name: Name, kind: Kind) -> Result<Move, AllocError>
     ensures { IfOk result (λ m. matched_of true (open_of innermost) name (end_goes_of (open_of innermost) (stack_of outer) kind) ≡ step_of m) }
 {
-    if same_name(&name, &innermost.tag.name) {
+    if same_name(&name, &innermost.tag.get().name) {
         return end_goes(innermost, outer, kind);
     }
     Ok(Move::Breaks(Fault::MismatchedEnd, name.at))
@@ -49,7 +49,7 @@ fn named(alloc: Global, bearer: Bearer, name: Name, kind: Kind) -> Result<Move, 
                 name,
                 pairs: Pairs::new(alloc),
             };
-            tag_goes(alloc, outer, tag, kind)
+            tag_goes(alloc, outer, Boxed::new(alloc, tag)?, kind)
         }
         Bearer::OfAttribute(outer, tag) => Ok(attribute_goes(outer, tag, name, kind)),
         Bearer::OfEnd(innermost, outer) => matched(innermost, outer, name, kind),

@@ -5,7 +5,7 @@ use crate::refusal::Fault;
 use crate::state::{Cited, Clause, Name, Stage, Start};
 use atl_base::place::Place;
 use atl_base::text::Text;
-use sqlite_items::Items;
+use sqlite_items::{Boxed, Items};
 
 /// Where markup stands: at the text's start, before the root, in an element, after the root.
 #[derive(Drop)]
@@ -20,7 +20,7 @@ pub enum Around {
 #[derive(Drop)]
 pub enum Bearer {
     OfStart(Items<Open>, Place),
-    OfAttribute(Items<Open>, Start),
+    OfAttribute(Items<Open>, Boxed<Start>),
     OfEnd(Open, Items<Open>),
 }
 
@@ -29,7 +29,7 @@ pub enum Bearer {
 pub struct Valuing {
     pub double: bool,
     pub outer: Items<Open>,
-    pub tag: Start,
+    pub tag: Boxed<Start>,
     pub name: Name,
     pub value: Text,
 }
@@ -111,15 +111,15 @@ pub enum Naming {
 #[derive(Drop)]
 pub enum Tag {
     /// Blanks in a start tag.
-    Spaced(Items<Open>, Start),
+    Spaced(Items<Open>, Boxed<Start>),
     /// A value's end.
-    Valued(Items<Open>, Start),
+    Valued(Items<Open>, Boxed<Start>),
     /// `/` in a start tag.
-    Shutting(Items<Open>, Start),
+    Shutting(Items<Open>, Boxed<Start>),
     /// `=` is wanted.
-    Equalling(Items<Open>, Start, Name),
+    Equalling(Items<Open>, Boxed<Start>, Name),
     /// A quote is wanted.
-    Opening(Items<Open>, Start, Name),
+    Opening(Items<Open>, Boxed<Start>, Name),
     Valuing(Valuing),
     /// `</`
     Ending(Open, Items<Open>),

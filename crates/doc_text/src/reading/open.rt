@@ -6,12 +6,13 @@ ghost use Rattle.doc_text.specs.State.{grow as grow_of};
 
 use crate::reading::raw::{RawTrees, add_char};
 use crate::state::Start;
+use sqlite_items::Boxed;
 use std::alloc::{AllocError, Global};
 
 /// An open element, with what has been read in it.
 #[derive(Debug, Drop)]
 pub struct Open {
-    pub tag: Start,
+    pub tag: Boxed<Start>,
     pub children: RawTrees,
 }
 

@@ -4,21 +4,22 @@ ghost use Rattle.atl_base.specs.XmlText.{is_xml_character};
 ghost use Rattle.doc_text.specs.Raw.{add_text};
 ghost use Rattle.doc_text.specs.RawTrees.{trees_of};
 
+use crate::growing::Growing;
 use crate::state::Start;
 use atl_base::text::Text;
-use sqlite_items::Items;
+use sqlite_items::{Boxed, Items};
 use std::alloc::{AllocError, Global};
-
-/// What stands in an element, in its order.
-pub type RawTrees = Items<RawTree>;
 
 /// An element with what stands in it, or text, of which no two neighbour.
 #[derive(Debug, Drop)]
 #[cycle(raw)]
 pub enum RawTree {
-    Node(Start, Items<RawTree>),
+    Node(Boxed<Start>, Items<RawTree>),
     Words(Text),
 }
+
+/// What stands in an element, in its order, while there is more to come.
+pub type RawTrees = Growing<RawTree>;
 
 /// A text of one character.
 pub fn text_of(alloc: Global, c: char) -> Result<Text, AllocError>

@@ -1,5 +1,5 @@
 // The tree of a document, with its names resolved.
-ghost use Rattle.std.specs.Prelude.{◌≡◌, List, ◌∷◌, ◌++◌, [], IfOk, OnOk, map, length, ◌&&◌};
+ghost use Rattle.std.specs.Prelude.{◌≡◌, List, ◌∷◌, ◌++◌, ◌≤◌, [], IfOk, OnOk, map, length, ◌&&◌};
 ghost use Rattle.std.specs.List.{list_all, list_any};
 ghost use Rattle.std.specs.Option.{option_map};
 ghost use Rattle.doc_text.specs.Encodings.{is_blank_byte};
@@ -18,7 +18,7 @@ use crate::reading::raw::{RawTree, RawTrees};
 use crate::state::{Pair, Start};
 use crate::tree::{Attribute, Child, Element, Prefix};
 use atl_base::text::Text;
-use sqlite_items::Items;
+use sqlite_items::{Boxed, Items};
 use std::alloc::{AllocError, Global};
 
 // The name of a namespace, empty where there is none.
@@ -35,7 +35,7 @@ fn space_text(alloc: Global, space: Option<Space>) -> Result<Text, AllocError>
 fn attribute_spaces(alloc: Global, tag: &Start, outer: &[Open]) -> Result<Vec<Text>, AllocError>
     ensures { IfOk result (λ spaces. spaces.items ≡ map (space_in (tag.now ∷ tags (stack_of outer.now))) tag.now.pairs) }
 {
-    let mut spaces = Vec::new(alloc);
+    let mut spaces = Vec::with_capacity(alloc, tag.pairs.len())?;
     for pair in tag.pairs.as_slice() {
         if is_declaration(&pair.name) {
             spaces.push(Text::new(alloc))?;
@@ -89,6 +89,15 @@ fn push_part(alloc: Global, parts: &mut Parts, pair: Pair, space: Text) -> Resul
     Ok(())
 }
 
+fn count_declarations(pairs: &[Pair]) -> usize
+    ensures { result ≤ length pairs.now }
+{
+    pairs
+        .iter()
+        .filter(|pair| is_declaration(&pair.name))
+        .count()
+}
+
 // The attributes of a tag and their namespaces, in the order of the tag.
 fn split(alloc: Global, pairs: Items<Pair>, spaces: Vec<Text>) -> Result<Parts, AllocError>
     requires { length spaces.items ≡ length pairs }
@@ -98,9 +107,10 @@ fn split(alloc: Global, pairs: Items<Pair>, spaces: Vec<Text>) -> Result<Parts, 
 {
     let mut pairs = pairs;
     let mut spaces = spaces;
+    let declarations = count_declarations(pairs.as_slice());
     let mut parts = Parts {
-        declared: Vec::new(alloc),
-        attributes: Vec::new(alloc),
+        declared: Vec::with_capacity(alloc, declarations)?,
+        attributes: Vec::with_capacity(alloc, pairs.len() - declarations)?,
     };
     while let Some(pair) = pairs.pop() {
         let Some(space) = spaces.pop() else {
@@ -117,14 +127,15 @@ fn split(alloc: Global, pairs: Items<Pair>, spaces: Vec<Text>) -> Result<Parts, 
 fn element(
     alloc: Global,
     outer: &[Open],
-    tag: Start,
+    tag: Boxed<Start>,
     children: Vec<Child>,
 ) -> Result<Element, AllocError>
     ensures { IfOk result (λ e. e ≡ element_of (tags (stack_of outer.now)) tag children.items) }
 {
-    let space = space_text(alloc, uri_of(&tag.name.prefix, &tag, outer))?;
-    let spaces = attribute_spaces(alloc, &tag, outer)?;
-    let Start { at, name, pairs } = tag;
+    let start = tag.get();
+    let space = space_text(alloc, uri_of(&start.name.prefix, start, outer))?;
+    let spaces = attribute_spaces(alloc, start, outer)?;
+    let Start { at, name, pairs } = tag.into_inner();
     let parts = split(alloc, pairs.into_items(), spaces)?;
     Ok(Element {
         space,
@@ -152,6 +163,16 @@ fn is_element(tree: &RawTree) -> bool
     }
 }
 
+// How many children are kept, beside elements those that are elements: a few texts more may be.
+fn count_kept(children: &[RawTree], beside: bool) -> usize
+    ensures { result ≤ length children.now }
+{
+    if !beside {
+        return children.len();
+    }
+    children.iter().filter(|tree| is_element(tree)).count()
+}
+
 fn is_blank_text(text: &Text) -> bool
     ensures { result ≡ list_all is_blank_byte text.now }
 {
@@ -170,14 +191,14 @@ fn is_dropped(text: &Text, beside: bool) -> bool
 fn resolve_children(
     alloc: Global,
     outer: &mut Items<Open>,
-    children: RawTrees,
+    children: Items<RawTree>,
 ) -> Result<Vec<Child>, AllocError>
     ensures children { IfOk result (λ cs. cs.items ≡ children_of (tags (stack_of outer.old)) (has_element_in (trees_of children)) (trees_of children)) }
     ensures outer { OnOk result (outer.new ≡ outer.old) }
 {
     let mut children = children;
     let beside = has_element(children.as_slice());
-    let mut resolved = Vec::new(alloc);
+    let mut resolved = Vec::with_capacity(alloc, count_kept(children.as_slice(), beside))?;
     while let Some(tree) = children.pop() {
         match tree {
             RawTree::Node(tag, inner) => {
@@ -200,8 +221,8 @@ fn resolve_children(
 fn resolve_element(
     alloc: Global,
     outer: &mut Items<Open>,
-    tag: Start,
-    children: RawTrees,
+    tag: Boxed<Start>,
+    children: Items<RawTree>,
 ) -> Result<Element, AllocError>
     ensures element { IfOk result (λ e. let around = tags (stack_of outer.old) in
         e ≡ element_of around tag (children_of (tag ∷ around) (has_element_in (trees_of children)) (trees_of children))) }
@@ -209,7 +230,7 @@ fn resolve_element(
 {
     outer.push(Open {
         tag,
-        children: Items::new(alloc),
+        children: RawTrees::new(alloc),
     })?;
     let children = resolve_children(alloc, outer, children)?;
     match outer.pop() {
@@ -219,7 +240,11 @@ fn resolve_element(
 }
 
 /// The root of a document, with its names resolved. Recursion goes as deep as the elements lie in one another.
-pub fn resolve(alloc: Global, tag: Start, children: RawTrees) -> Result<Element, AllocError>
+pub fn resolve(
+    alloc: Global,
+    tag: Boxed<Start>,
+    children: Items<RawTree>,
+) -> Result<Element, AllocError>
     ensures { IfOk result (λ e. resolved tag (trees_of children) ≡ e) }
 {
     let mut outer = Items::new(alloc);

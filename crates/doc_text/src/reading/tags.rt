@@ -12,12 +12,12 @@ ghost use Rattle.doc_text.specs.declared.reading.next.Tag.TheVariants as T;
 use crate::reading::kinds::{is_and, is_quote, is_value, push_value, text_of};
 use crate::reading::next::{Bearer, Citing, Content, Move, Naming, Next, Tag, Valuing};
 use crate::reading::open::Open;
-use crate::reading::raw::RawTree;
+use crate::reading::raw::{RawTree, RawTrees};
 use crate::reading::tag_fault::tag_fault;
 use crate::state::{Cited, Name, Pair, Start};
 use crate::symbol::{Kind, Symbol};
 use atl_base::text::Text;
-use sqlite_items::Items;
+use sqlite_items::{Boxed, Items};
 use std::alloc::{AllocError, Global};
 
 // An element ends in another one.
@@ -26,7 +26,9 @@ fn ended_in(parent: Open, outer: Items<Open>, closed: Open) -> Result<Next, Allo
 {
     let Open { tag, children } = closed;
     let mut parent = parent;
-    parent.children.push(RawTree::Node(tag, children))?;
+    parent
+        .children
+        .push(RawTree::Node(tag, children.into_items()))?;
     Ok(Next::InContent(Content::Inside(0, parent, outer)))
 }
 
@@ -42,29 +44,29 @@ pub fn ended(outer: Items<Open>, closed: Open) -> Result<Next, AllocError>
 }
 
 // `>` of a start tag.
-fn opens(alloc: Global, outer: Items<Open>, tag: Start) -> Result<Move, AllocError>
+fn opens(alloc: Global, outer: Items<Open>, tag: Boxed<Start>) -> Result<Move, AllocError>
     ensures { IfOk result (λ m. judged_of true (stack_of outer) tag (Goes (Inside 0 (opened tag Nil) (stack_of outer))) ≡ step_of m) }
 {
-    if let Some((fault, at)) = tag_fault(alloc, outer.as_slice(), &tag)? {
+    if let Some((fault, at)) = tag_fault(alloc, outer.as_slice(), tag.get())? {
         return Ok(Move::Breaks(fault, at));
     }
     let innermost = Open {
         tag,
-        children: Items::new(alloc),
+        children: RawTrees::new(alloc),
     };
     Ok(Move::Goes(Next::InContent(Content::Inside(0, innermost, outer))))
 }
 
 // `/>`
-fn opens_and_ends(alloc: Global, outer: Items<Open>, tag: Start) -> Result<Move, AllocError>
+fn opens_and_ends(alloc: Global, outer: Items<Open>, tag: Boxed<Start>) -> Result<Move, AllocError>
     ensures { IfOk result (λ m. judged_of true (stack_of outer) tag (Goes (ended_of (stack_of outer) (Node tag Nil))) ≡ step_of m) }
 {
-    if let Some((fault, at)) = tag_fault(alloc, outer.as_slice(), &tag)? {
+    if let Some((fault, at)) = tag_fault(alloc, outer.as_slice(), tag.get())? {
         return Ok(Move::Breaks(fault, at));
     }
     let closed = Open {
         tag,
-        children: Items::new(alloc),
+        children: RawTrees::new(alloc),
     };
     Ok(Move::Goes(ended(outer, closed)?))
 }
@@ -73,7 +75,7 @@ fn opens_and_ends(alloc: Global, outer: Items<Open>, tag: Start) -> Result<Move,
 pub fn tag_goes(
     alloc: Global,
     outer: Items<Open>,
-    tag: Start,
+    tag: Boxed<Start>,
     kind: Kind,
 ) -> Result<Move, AllocError>
     ensures { IfOk result (λ m. tag_goes_of true (stack_of outer) tag kind ≡ step_of m) }
@@ -87,7 +89,7 @@ pub fn tag_goes(
 }
 
 /// After an attribute's name.
-pub fn attribute_goes(outer: Items<Open>, tag: Start, name: Name, kind: Kind) -> Move
+pub fn attribute_goes(outer: Items<Open>, tag: Boxed<Start>, name: Name, kind: Kind) -> Move
     ensures { attribute_goes_of (stack_of outer) tag name kind ≡ step_of result }
 {
     match kind {
@@ -109,7 +111,12 @@ pub fn end_goes(innermost: Open, outer: Items<Open>, kind: Kind) -> Result<Move,
 }
 
 // Blanks in a start tag.
-fn spaced(alloc: Global, outer: Items<Open>, tag: Start, symbol: Symbol) -> Result<Move, AllocError>
+fn spaced(
+    alloc: Global,
+    outer: Items<Open>,
+    tag: Boxed<Start>,
+    symbol: Symbol,
+) -> Result<Move, AllocError>
     requires { IsSound symbol.kind }
     ensures { IfOk result (λ m. stepped true (tag_of (T.Spaced outer tag)) symbol.kind symbol.at ≡ step_of m) }
 {
@@ -130,7 +137,7 @@ fn spaced(alloc: Global, outer: Items<Open>, tag: Start, symbol: Symbol) -> Resu
 fn shutting(
     alloc: Global,
     outer: Items<Open>,
-    tag: Start,
+    tag: Boxed<Start>,
     symbol: Symbol,
 ) -> Result<Move, AllocError>
     ensures { IfOk result (λ m. stepped true (tag_of (T.Shutting outer tag)) symbol.kind symbol.at ≡ step_of m) }
@@ -142,7 +149,13 @@ fn shutting(
 }
 
 // A value in these quotes begins.
-fn value_begins(alloc: Global, double: bool, outer: Items<Open>, tag: Start, name: Name) -> Move
+fn value_begins(
+    alloc: Global,
+    double: bool,
+    outer: Items<Open>,
+    tag: Boxed<Start>,
+    name: Name,
+) -> Move
     ensures { Goes (InValuing double (stack_of outer) tag name []) ≡ step_of result }
 {
     Move::Goes(Next::InTag(Tag::Valuing(Valuing {
@@ -155,7 +168,7 @@ fn value_begins(alloc: Global, double: bool, outer: Items<Open>, tag: Start, nam
 }
 
 // After `=`.
-fn opening(alloc: Global, outer: Items<Open>, tag: Start, name: Name, kind: Kind) -> Move
+fn opening(alloc: Global, outer: Items<Open>, tag: Boxed<Start>, name: Name, kind: Kind) -> Move
     ensures { opening_quote_of (stack_of outer) tag name kind ≡ step_of result }
 {
     match kind {
@@ -167,16 +180,21 @@ fn opening(alloc: Global, outer: Items<Open>, tag: Start, name: Name, kind: Kind
 }
 
 // A start tag with an attribute more.
-fn further(tag: Start, name: Name, value: Text) -> Result<Start, AllocError>
+fn further(
+    alloc: Global,
+    tag: Boxed<Start>,
+    name: Name,
+    value: Text,
+) -> Result<Boxed<Start>, AllocError>
     ensures { IfOk result (λ t. t ≡ further_of tag name value) }
 {
-    let mut tag = tag;
+    let mut tag = tag.into_inner();
     tag.pairs.push(Pair { name, value })?;
-    Ok(tag)
+    Boxed::new(alloc, tag)
 }
 
 // A value's closing quote.
-fn value_ends(valuing: Valuing, symbol: Symbol) -> Result<Move, AllocError>
+fn value_ends(alloc: Global, valuing: Valuing, symbol: Symbol) -> Result<Move, AllocError>
     requires { is_quote_of valuing.double symbol.kind ≡ true }
     ensures { IfOk result (λ m. stepped true (tag_of (T.Valuing valuing)) symbol.kind symbol.at ≡ step_of m) }
 {
@@ -187,7 +205,7 @@ fn value_ends(valuing: Valuing, symbol: Symbol) -> Result<Move, AllocError>
         name,
         value,
     } = valuing;
-    let longer = further(tag, name, value)?;
+    let longer = further(alloc, tag, name, value)?;
     Ok(Move::Goes(Next::InTag(Tag::Valued(outer, longer))))
 }
 
@@ -227,7 +245,7 @@ fn value_breaks_off(valuing: Valuing, symbol: Symbol) -> Move
 }
 
 // In a value.
-fn in_value(valuing: Valuing, symbol: Symbol) -> Result<Move, AllocError>
+fn in_value(alloc: Global, valuing: Valuing, symbol: Symbol) -> Result<Move, AllocError>
     requires { IsSound symbol.kind }
     ensures { IfOk result (λ m. stepped true (tag_of (T.Valuing valuing)) symbol.kind symbol.at ≡ step_of m) }
 {
@@ -235,7 +253,7 @@ fn in_value(valuing: Valuing, symbol: Symbol) -> Result<Move, AllocError>
         return value_goes(valuing, symbol);
     }
     if is_quote(valuing.double, symbol.kind) {
-        return value_ends(valuing, symbol);
+        return value_ends(alloc, valuing, symbol);
     }
     Ok(value_breaks_off(valuing, symbol))
 }
@@ -274,7 +292,7 @@ pub fn step(alloc: Global, tag: Tag, symbol: Symbol) -> Result<Move, AllocError>
         Tag::Shutting(outer, tag) => shutting(alloc, outer, tag, symbol),
         Tag::Equalling(outer, tag, name) => Ok(attribute_goes(outer, tag, name, symbol.kind)),
         Tag::Opening(outer, tag, name) => Ok(opening(alloc, outer, tag, name, symbol.kind)),
-        Tag::Valuing(value) => in_value(value, symbol),
+        Tag::Valuing(value) => in_value(alloc, value, symbol),
         Tag::Ending(innermost, outer) => ending(alloc, innermost, outer, symbol),
         Tag::Closing(innermost, outer) => end_goes(innermost, outer, symbol.kind),
     }

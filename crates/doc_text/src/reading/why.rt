@@ -1,13 +1,15 @@
 // Why reading stops at a character that is not taken, or at the end.
-ghost use Rattle.std.specs.Prelude.{◌≡◌, List};
+ghost use Rattle.std.specs.Prelude.{◌≡◌, ◌∷◌, List, if◌then◌else◌};
 ghost use Rattle.atl_base.specs.declared.place.Place.{Place as SomePlace};
 ghost use Rattle.doc_text.specs.Answers.{refusal_of};
-ghost use Rattle.doc_text.specs.Machine.{after_root as after_root_of, begins as begins_of, declares as declares_of, declared as declared_of, reason as reason_of, unwanted as unwanted_of};
+ghost use Rattle.doc_text.specs.Faults.{BadByte, Expected, Trailing};
+ghost use Rattle.doc_text.specs.Machine.{begins as begins_of, declares as declares_of, declared as declared_of, reason as reason_of};
 ghost use Rattle.doc_text.specs.Nexts.{around_of, content_of, markup_of, state_of};
 ghost use Rattle.doc_text.specs.State.{Banged, BangDash, Begun};
 ghost use Rattle.doc_text.specs.Stopping.{refused, why_of};
-ghost use Rattle.doc_text.specs.Symbols.{Symbol as SomeSymbol};
+ghost use Rattle.doc_text.specs.Symbols.{Symbol as SomeSymbol, is_good as is_good_of};
 
+use crate::cursor::Cursor;
 use crate::reading::kinds::{char_of, is_good};
 use crate::reading::next::{Around, Content, Markup, Next};
 use crate::refusal::{DocRefusal, Fault};
@@ -122,28 +124,20 @@ pub fn refusal(fault: Fault, at: Place) -> DocRefusal
     }
 }
 
-// The next character is none, or the form needs something else.
-fn unwanted(end: Place, rest: &[Symbol]) -> DocRefusal
-    ensures { result ≡ refused (unwanted_of end rest.now) }
+// The form needs something else than this character.
+fn unwanted(symbol: Symbol) -> DocRefusal
+    ensures { result ≡ refused (if is_good_of symbol.kind then Expected else BadByte, symbol.at) }
 {
-    if rest.is_empty() {
-        return DocRefusal::Expected(end);
-    }
-    let symbol = rest[0];
     if is_good(symbol.kind) {
         return DocRefusal::Expected(symbol.at);
     }
     DocRefusal::BadByte(symbol.at)
 }
 
-// The next character is none, or should not stand after the root.
-fn after_root(end: Place, rest: &[Symbol]) -> DocRefusal
-    ensures { result ≡ refused (after_root_of end rest.now) }
+// This character should not stand after the root.
+fn after_root(symbol: Symbol) -> DocRefusal
+    ensures { result ≡ refused (if is_good_of symbol.kind then Trailing else BadByte, symbol.at) }
 {
-    if rest.is_empty() {
-        return DocRefusal::Expected(end);
-    }
-    let symbol = rest[0];
     if is_good(symbol.kind) {
         return DocRefusal::Trailing(symbol.at);
     }
@@ -151,45 +145,58 @@ fn after_root(end: Place, rest: &[Symbol]) -> DocRefusal
 }
 
 // The characters begin with this word.
-fn begins(word: &[u8], rest: &[Symbol]) -> bool
-    ensures { result ≡ begins_of word.now rest.now }
+fn begins(word: &[u8], rest: &Cursor) -> bool
+    ensures { result ≡ begins_of word.now rest.now.symbols }
 {
+    let mut left = rest.copy();
     for i in 0..word.len() {
-        if i >= rest.len() {
-            return false;
-        }
-        if char_of(rest[i].kind) != char::from(word[i]) {
-            return false;
+        match left.next() {
+            Some(symbol) => {
+                if char_of(symbol.kind) != char::from(word[i]) {
+                    return false;
+                }
+            }
+            None => return false,
         }
     }
     true
 }
 
-// A document type declaration or CDATA follows `<!`.
-fn declares(rest: &[Symbol]) -> bool
-    ensures { result ≡ declares_of rest.now }
+// This character, with those that follow it, begins with this word.
+fn begins_with(word: &[u8], symbol: Symbol, rest: &Cursor) -> bool
+    ensures { result ≡ begins_of word.now (symbol ∷ rest.now.symbols) }
 {
-    begins(b"DOCTYPE", rest) || begins(b"[CDATA[", rest)
+    match word {
+        [] => true,
+        [c, more @ ..] => char_of(symbol.kind) == char::from(*c) && begins(more, rest),
+    }
+}
+
+// A document type declaration or CDATA follows `<!`.
+fn declares(symbol: Symbol, rest: &Cursor) -> bool
+    ensures { result ≡ declares_of (symbol ∷ rest.now.symbols) }
+{
+    begins_with(b"DOCTYPE", symbol, rest) || begins_with(b"[CDATA[", symbol, rest)
 }
 
 // After `<!`.
-fn declared(end: Place, less: Place, rest: &[Symbol]) -> DocRefusal
-    ensures { result ≡ refused (declared_of end less rest.now) }
+fn declared(less: Place, symbol: Symbol, rest: &Cursor) -> DocRefusal
+    ensures { result ≡ refused (declared_of rest.now.end less (symbol ∷ rest.now.symbols)) }
 {
-    if declares(rest) {
+    if declares(symbol, rest) {
         return DocRefusal::Unsupported(less);
     }
-    unwanted(end, rest)
+    unwanted(symbol)
 }
 
-/// The refusal at the first of these characters, or at the end.
-pub fn reason(why: Why, end: Place, rest: &[Symbol]) -> DocRefusal
-    ensures { result ≡ refused (why_of why end rest.now) }
+/// The refusal at this character, which those that follow it may tell more of.
+pub fn reason(why: Why, symbol: Symbol, rest: &Cursor) -> DocRefusal
+    ensures { result ≡ refused (why_of why rest.now.end (symbol ∷ rest.now.symbols)) }
 {
     match why {
         Why::Trailing(less) => DocRefusal::Trailing(less),
-        Why::AfterRoot => after_root(end, rest),
-        Why::Declares(less) => declared(end, less, rest),
-        Why::Unwanted => unwanted(end, rest),
+        Why::AfterRoot => after_root(symbol),
+        Why::Declares(less) => declared(less, symbol, rest),
+        Why::Unwanted => unwanted(symbol),
     }
 }

@@ -1,6 +1,5 @@
-use Rattle.std.proofs.Common.{◌≡◌, List, get_or, ap, sym, ◌∙◌, Some, None}
+use Rattle.std.proofs.Common.{get_or, ap, sym, ◌∙◌, Some}
 use Rattle.doc_text.specs.Declarations.{first_of}
-use Rattle.doc_text.specs.declared.state.Pair.{Pair}
 use Rattle.doc_text.proofs.Declared.{uri_of_first, uri_undeclared}
 use Rattle.doc_text.proofs.reading.names.own_uri.Goals as goal
 

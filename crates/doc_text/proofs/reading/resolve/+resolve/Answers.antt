@@ -17,7 +17,7 @@ resolve_children-loop-tree-init t c =
     record {
       outer = refl;
       lighter = omega arith;
-      rest = ap (λ l. children around c.has_element-beside.result trees ++ reverse l) c.new-resolved.ensures.items ∙ append-nil (children around c.has_element-beside.result trees)
+      rest = ap (λ l. children around c.has_element-beside.result trees ++ reverse l) c.in_ok-resolved.ensures.items ∙ append-nil (children around c.has_element-beside.result trees)
           ∙ ap (λ b. children around b trees) beside;
     }
 
@@ -27,8 +27,8 @@ resolve_children-resolve_element-requires t c =
     let popped : left ≡ Also (trees_of c.pop.new.self) (Node c.in-Node.tag (trees_of c.in-Node.inner)) = popped_node _ _ _ _ _ c.in-Some.ensures c.in-Node.is in
     (omega (arith, inner_lighter left _ _ _ popped, c.loop-tree.invariant.lighter), tt)
 
-pub resolve_children-loop-tree-preserved-in-Continue-branch-2 : goal.resolve_children-loop-tree-preserved-in-Continue-branch-2
-resolve_children-loop-tree-preserved-in-Continue-branch-2 t c =
+pub resolve_children-loop-tree-preserved-in-Continue-branch-3 : goal.resolve_children-loop-tree-preserved-in-Continue-branch-3
+resolve_children-loop-tree-preserved-in-Continue-branch-3 t c =
     let so_far = c.loop-tree.invariant in
     let left = trees_of c.loop-tree.children in
     let rest = trees_of c.pop.new.self in
@@ -43,8 +43,8 @@ resolve_children-loop-tree-preserved-in-Continue-branch-2 t c =
           popped so_far.rest c.in_ok-push-in-Node.ensures.items;
     }
 
-pub resolve_children-loop-tree-preserved-in-Continue-branch-3 : goal.resolve_children-loop-tree-preserved-in-Continue-branch-3
-resolve_children-loop-tree-preserved-in-Continue-branch-3 t c =
+pub resolve_children-loop-tree-preserved-in-Continue-branch-4 : goal.resolve_children-loop-tree-preserved-in-Continue-branch-4
+resolve_children-loop-tree-preserved-in-Continue-branch-4 t c =
     let so_far = c.loop-tree.invariant in
     let left = trees_of c.loop-tree.children in
     let rest = trees_of c.pop.new.self in

@@ -4,7 +4,7 @@ use Rattle.std.proofs.Math.Seq.{take-length}
 use Rattle.std.specs.Str.{chars, IsValidUpTo, IsUtf8}
 use Rattle.std.specs.Str.Lossy.{utf8_valid_len}
 use Rattle.doc_text.specs.Characters.{tail}
-use Rattle.doc_text.proofs.characters.decode_utf8.Goals as goal
+use Rattle.doc_text.proofs.source.decode_utf8.Goals as goal
 
 -- the longest front that is UTF-8 is as long as that
 long : (bs front : List ℕ) → IsUtf8 front → (front ≡ bs) ⊎ (IsValidUpTo bs (length front) × (front ≡ take (length front) bs)) → length front ≡ utf8_valid_len bs
@@ -21,5 +21,5 @@ returns c =
     let front = c.utf8_front-front.result.now in
     let n : length front ≡ utf8_valid_len bs = long bs front c.utf8_front-front.utf8 c.utf8_front-front.ensures in
     let f : front ≡ take (utf8_valid_len bs) bs = front_is bs front c.utf8_front-front.ensures ∙ ap (λ m. take m bs) n in
-    ap (λ x. x ++ tail (nat_eq (length front) (length bs))) (c.in_ok-characters.ensures ∙ ap chars f)
+    ap (λ x. chars x ++ tail (nat_eq (length front) (length bs))) f
     ∙ ap (λ m. chars (take (utf8_valid_len bs) bs) ++ tail (nat_eq m (length bs))) n
