@@ -5,6 +5,7 @@ pub mod Completes
 pub mod Deep
 pub mod Deeper
 pub mod Fine
+pub mod Found
 pub mod Halts
 pub mod Led
 pub mod Lengths
