@@ -26,7 +26,7 @@ use Rattle.ocl_parse.specs.Machine.{Goes, Expected, Deep, after, run}
 use Rattle.ocl_parse.specs.Laws.{Matches}
 use Rattle.ocl_parse.proofs.Accepts.{Admits, IsSafe, Safe, low, admits_dot, admits_more, stays, starts, starts_deep, let_here, kinds, follow_dot, named_opens, calls, iterates, folds, reads, reads_all, reads_elements}
 
-abbrev IsThere : Option ℕ → Type 0
+abbrev pub IsThere : Option ℕ → Type 0
 IsThere (Some k) = Unit {0}
 IsThere Nowhere = ⊥
 
@@ -35,23 +35,23 @@ number_or d (Some k) = k
 number_or d Nowhere = d
 
 -- the first of two is the first one's, or there the second's
-split : (a b : Option ℕ) (k : ℕ) → or_else a b ≡ Some k → (a ≡ Some k) ⊎ ((a ≡ Nowhere) × (b ≡ Some k))
+pub split : (a b : Option ℕ) (k : ℕ) → or_else a b ≡ Some k → (a ≡ Some k) ⊎ ((a ≡ Nowhere) × (b ≡ Some k))
 split (Some p) b k h = inl h
 split Nowhere b k h = inr (refl, h)
 
-neither : (a b : Option ℕ) → or_else a b ≡ Nowhere → (a ≡ Nowhere) × (b ≡ Nowhere)
+pub neither : (a b : Option ℕ) → or_else a b ≡ Nowhere → (a ≡ Nowhere) × (b ≡ Nowhere)
 neither (Some p) b h = absurd (subst IsThere h tt)
 neither Nowhere b h = (refl, h)
 
 -- the number of one that is counted from further on
-abbrev Counted : ℕ → Option ℕ → ℕ → Type 0
+abbrev pub Counted : ℕ → Option ℕ → ℕ → Type 0
 Counted n o k = (j : ℕ) × (o ≡ Some j) × (n + j ≡ k)
 
-counted : (n : ℕ) (o : Option ℕ) (k : ℕ) → behind n o ≡ Some k → Counted n o k
+pub counted : (n : ℕ) (o : Option ℕ) (k : ℕ) → behind n o ≡ Some k → Counted n o k
 counted n (Some j) k h = (j, refl, ap (number_or 0) h)
 counted n Nowhere k h = absurd (subst IsThere (sym h) tt)
 
-uncounted : (n : ℕ) (o : Option ℕ) → behind n o ≡ Nowhere → o ≡ Nowhere
+pub uncounted : (n : ℕ) (o : Option ℕ) → behind n o ≡ Nowhere → o ≡ Nowhere
 uncounted n (Some j) h = absurd (subst IsThere h tt)
 uncounted n Nowhere h = refl
 

@@ -16,18 +16,18 @@ use Rattle.ocl_parse.proofs.Deeper.{IsStuck, OnlyDeep, stuck, stuck_only, stuck_
 use Rattle.ocl_parse.proofs.Breaks.{Broken, tries}
 
 -- of two ways to cut a list, one cuts what the other leaves
-abbrev pub Cuts : List Lexeme → List Lexeme → List Lexeme → List Lexeme → Type 0
-Cuts xs l ys m = ((d : List Lexeme) × (xs ≡ ys ++ d) × (m ≡ d ++ l)) ⊎ ((d : List Lexeme) × (ys ≡ xs ++ d) × (l ≡ d ++ m))
+abbrev pub Cuts : {A : Type 0} → List A → List A → List A → List A → Type 0
+Cuts {A = A} xs l ys m = ((d : List A) × (xs ≡ ys ++ d) × (m ≡ d ++ l)) ⊎ ((d : List A) × (ys ≡ xs ++ d) × (l ≡ d ++ m))
 
-abbrev tail_of : List Lexeme → List Lexeme
+abbrev pub tail_of : {A : Type 0} → List A → List A
 tail_of [] = []
 tail_of (t ∷ ts) = ts
 
-abbrev head_or : Lexeme → List Lexeme → Lexeme
+abbrev pub head_or : {A : Type 0} → A → List A → A
 head_or d [] = d
 head_or d (t ∷ ts) = t
 
-pub cuts : (xs l ys m : List Lexeme) → xs ++ l ≡ ys ++ m → Cuts xs l ys m
+pub cuts : {A : Type 0} → (xs l ys m : List A) → xs ++ l ≡ ys ++ m → Cuts xs l ys m
 cuts [] l ys m h = inr (ys, refl, h)
 cuts (x ∷ xs) l [] m h = inl (x ∷ xs, refl, sym h)
 cuts (x ∷ xs) l (y ∷ ys) m h =
