@@ -98,6 +98,11 @@ finish_alike (AtItem n) m h = h
 finish_alike (InExpr o fs n) m h = absurd (unread (last_inside false fs n) m h)
 finish_alike s m h = absurd (not_expected (Expected []) m [] h refl)
 
+pub finish_loose : (s : State) (m : Module) → finish true s ≡ Read m → finish false s ≡ Read m
+finish_loose (AtItem n) m h = h
+finish_loose (InExpr o fs n) m h = absurd (unread (last_inside true fs n) m h)
+finish_loose s m h = absurd (not_expected (Expected []) m [] h refl)
+
 pub finish_rest : (s : State) (r : List Mark) → finish true s ≡ Expected r → r ≡ []
 finish_rest (AtItem n) r h = absurd (not_expected (Read n) n r refl h)
 finish_rest (InExpr o fs n) r h = sym (ap rest_of h) ∙ on (last_inside true fs n)

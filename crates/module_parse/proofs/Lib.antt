@@ -12,6 +12,7 @@ pub mod Loosely
 pub mod Halts
 pub mod Deeper
 pub mod Found
+pub mod Only
 pub mod Main
 pub mod Refusals
 pub mod Writings

@@ -14,10 +14,11 @@ use Rattle.module_parse.proofs.Accepts.{accepts}
 use Rattle.module_parse.proofs.Stands.{Stands}
 use Rattle.module_parse.proofs.SoundStats.{ReadOf, sound}
 use Rattle.module_parse.proofs.Ends.{completes}
-use Rattle.module_parse.proofs.Halts.{agrees, rest_of, not_expected, not_deep, finish_alike, finish_rest, Stopped, nothing, HaltsAt, Halt, halts, refuses_all, too_deep_all}
+use Rattle.module_parse.proofs.Halts.{agrees, rest_of, not_expected, not_deep, finish_alike, finish_rest, finish_loose, Stopped, nothing, HaltsAt, Halt, halts, refuses_all, too_deep_all}
 use Rattle.module_parse.proofs.Breaks.{fit_module}
 use Rattle.module_parse.proofs.Loosely.{IsStuck}
 use Rattle.module_parse.proofs.Deeper.{stuck_last, Meets, Deeper, deeper}
+use Rattle.module_parse.proofs.Only.{expected_deep, read_deep, deep_same, expected_same, expected_read}
 use Rattle.module_parse.proofs.Found.{Waits, FirstAt, Found, found, unfound}
 
 -- where a text can go on
@@ -169,11 +170,42 @@ tells ts (Expected r) x y z =
     )
 tells ts (Deep p) x y z = tells_deep ts p x
 
+-- a module that fits with the depth fits without it
+loosened : (ts : List Mark) (m : Module) → IsModule true ts m → IsModule false ts m
+loosened ts m h = on (subst (Halt AtStart ts ts) (accepts true ts m h) (halts ts AtStart ts refl))
+  where
+    on : Halt AtStart ts ts (Read m) → IsModule false ts m
+    on x = spoken ts m (ap (read false) x.whole ∙ x.leads false x.rest ∙ last x.rest x.here)
+      where
+        never : (v : Step) (t : Mark) (r : List Mark) → Stopped v → after v (t ∷ r) nothing ≡ Read m → ⊥
+        never (Goes u) t r n k = n
+        never Refuses t r n k = not_expected (Expected (t ∷ r)) m (t ∷ r) k refl
+        never (TooDeep q) t r n k = not_deep (Deep q) m q k refl
+
+        last : (r : List Mark) → HaltsAt x.state r (Read m) → run false x.state r ≡ Read m
+        last [] k = finish_loose x.state m k
+        last (t ∷ r) k = absurd (never (step true x.state t.content t.place) t r k.0 k.1)
+
+telling : (ts : List Mark) → Tells ts (read true ts)
+telling ts = tells ts (read true ts) (halts ts AtStart ts refl) (sound true ts AtStart ts refl) refl
+
+only : (ts : List Mark) (end : End) → Tells ts end → read true ts ≡ end
+only ts (Read m) x = accepts true ts m x
+only ts (Expected r) x = on (read true ts) refl (telling ts)
+  where
+    on : (v : End) → read true ts ≡ v → Tells ts v → read true ts ≡ Expected r
+    on (Read m) i y = absurd (expected_read loosened ts r m x y)
+    on (Expected s) i y = i ∙ ap Expected (expected_same ts s r y x)
+    on (Deep p) i y = absurd (expected_deep ts r p x y)
+only ts (Deep p) x = on (read true ts) refl (telling ts)
+  where
+    on : (v : End) → read true ts ≡ v → Tells ts v → read true ts ≡ Deep p
+    on (Read m) i y = absurd (read_deep ts m p y x)
+    on (Expected s) i y = absurd (expected_deep ts s p y x)
+    on (Deep q) i y = i ∙ ap Deep (deep_same ts q p y x)
+
 pub exact : (ts : List Mark) → Exact ts
-exact ts = record {
-  tells = tells ts (read true ts) (halts ts AtStart ts refl) (sound true ts AtStart ts refl) refl;
-  reads = λ m h. accepts true ts m h;
-}
+exact ts = record { tells = telling ts; only = only ts; reads = accepts true ts }
 
 abbrev module_or : Module → End → Module
 module_or d (Read m) = m

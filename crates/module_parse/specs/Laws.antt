@@ -58,6 +58,8 @@ Tells ts (Deep p) =
 
 pub record Exact (ts : List Mark) : Type 0 where
   pub tells : Tells ts (read true ts)
+  -- and of no other answer is it told
+  pub only : (end : End) → Tells ts end → read true ts ≡ end
   pub reads : (m : Module) → IsModule true ts m → read true ts ≡ Read m
 
 -- what is canonically written for a module's tree is of the grammar, whatever its depth, and has that tree up to places

@@ -10,6 +10,7 @@ pub mod Halts
 pub mod Led
 pub mod Lengths
 pub mod Main
+pub mod Only
 pub mod Ordered
 pub mod Over
 pub mod Resolving

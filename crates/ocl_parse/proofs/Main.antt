@@ -22,6 +22,7 @@ use Rattle.ocl_parse.proofs.Fine.{Fine, fine}
 use Rattle.ocl_parse.proofs.Breaks.{fits}
 use Rattle.ocl_parse.proofs.Halts.{rest_of, IsSome, IsRead, IsDeep, over_rest, Ends, HaltsAt, Halt, halts, deep_not, too_deep}
 use Rattle.ocl_parse.proofs.Deeper.{IsStuck, Meets, Deeper, deeper, stuck_last}
+use Rattle.ocl_parse.proofs.Only.{expected_deep, read_deep, deep_same, expected_same, expected_read}
 use Rattle.ocl_parse.proofs.Found.{Waits, FirstAt, Found, found, unfound}
 
 accepts : (b : Bool) (ts : List Lexeme) (e : Expr) → IsExpr b ts e → read b ts ≡ Read e []
@@ -277,8 +278,36 @@ reads_on front e x rest s = on rest s
     on [] s = lead true [] ∙ ends
     on (t ∷ r) s = lead true (t ∷ r) ∙ one t r s (step true x.gs x.n t.symbol t.place) refl (fine true x.gs x.n e t.symbol t.place ends)
 
+-- an expression that fits with the depth fits without it
+loosened : (ts : List Lexeme) (e : Expr) → IsExpr true ts e → IsExpr false ts e
+loosened ts e h =
+    let x = subst (Halt [] N.Operand ts) (accepts true ts e h) (halts ts [] N.Operand tt) in
+    let none : [] ≡ x.rest = halt_rest x.gs x.n x.rest (Read e []) (λ z. z) x.here in
+    let ends : after (last true x.gs x.n) [] ended ≡ Read e [] = subst (λ l. HaltsAt x.gs x.n l (Read e [])) (sym none) x.here in
+    spoken ts e
+    (ap (read false) (x.whole ∙ ap (λ l. x.front ++ l) (sym none)) ∙ x.leads false []
+    ∙ last_alike (last true x.gs x.n) (last false x.gs x.n) (λ y. subst IsDeep ends y) (last_agrees x.gs x.n) ∙ ends)
+
+reads_whole : (ts front rest : List Lexeme) (e : Expr) → ts ≡ front ++ rest → IsExpr true front e → StopsAt false front rest → read true ts ≡ Read e rest
+reads_whole ts front rest e h x s = ap (read true) h ∙ reads_on front e (subst (Halt [] N.Operand front) (accepts true front e x) (halts front [] N.Operand tt)) rest s
+
+telling : (ts : List Lexeme) → Tells ts (read true ts)
+telling ts = tells ts (read true ts) (halts ts [] N.Operand tt) (sound true ts [] N.Operand ts refl) refl
+
+only : (ts : List Lexeme) (end : End) → Tells ts end → read true ts ≡ end
+only ts (Read e r) x = reads_whole ts x.0 r e x.1 x.2 x.3
+only ts (Expected r) x = on (read true ts) refl (telling ts)
+  where
+    on : (v : End) → read true ts ≡ v → Tells ts v → read true ts ≡ Expected r
+    on (Read e s) i y = absurd (expected_read loosened ts r e s x y)
+    on (Expected s) i y = i ∙ ap Expected (expected_same ts s r y x)
+    on (Deep p) i y = absurd (expected_deep ts r p x y)
+only ts (Deep p) x = on (read true ts) refl (telling ts)
+  where
+    on : (v : End) → read true ts ≡ v → Tells ts v → read true ts ≡ Deep p
+    on (Read e s) i y = absurd (read_deep ts e s p y x)
+    on (Expected s) i y = absurd (expected_deep ts s p y x)
+    on (Deep q) i y = i ∙ ap Deep (deep_same ts q p y x)
+
 pub exact : (ts : List Lexeme) → Exact ts
-exact ts = record {
-  tells = tells ts (read true ts) (halts ts [] N.Operand tt) (sound true ts [] N.Operand ts refl) refl;
-  reads = λ front rest e h x s. ap (read true) h ∙ reads_on front e (subst (Halt [] N.Operand front) (accepts true front e x) (halts front [] N.Operand tt)) rest s;
-}
+exact ts = record { tells = telling ts; only = only ts; reads = reads_whole ts }

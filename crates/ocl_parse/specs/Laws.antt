@@ -54,4 +54,6 @@ Tells ts (Deep p) =
 
 pub record Exact (ts : List Lexeme) : Type 0 where
   pub tells : Tells ts (read true ts)
+  -- and of no other answer is it told
+  pub only : (end : End) → Tells ts end → read true ts ≡ end
   pub reads : (front rest : List Lexeme) (e : Expr) → ts ≡ front ++ rest → IsExpr true front e → StopsAt false front rest → read true ts ≡ Read e rest
