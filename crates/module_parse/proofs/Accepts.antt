@@ -37,20 +37,20 @@ use Rattle.module_parse.specs.Machine.{Goes, Refuses, comma_or_close, with_all, 
 use Rattle.module_parse.proofs.Inside.{Closing, reads_expr, reads_assigned, reads_kind}
 use Rattle.module_parse.proofs.Statements.{NotElse, begins_stat, expr_not_else, without_else}
 
-abbrev comma : Place → Mark
+abbrev pub comma : Place → Mark
 comma p = sign p (S.End E.Comma)
 
-abbrev close : Place → Mark
+abbrev pub close : Place → Mark
 close p = sign p (S.End E.Close)
 
-abbrev brace : Place → Mark
+abbrev pub brace : Place → Mark
 brace p = sign p S.OpenBrace
 
-abbrev closing_brace : Place → Mark
+abbrev pub closing_brace : Place → Mark
 closing_brace p = sign p (S.End E.CloseBrace)
 
 -- a comma, or a closing parenthesis
-abbrev Between : Content → Type 0
+abbrev pub Between : Content → Type 0
 Between (Shared (T.Fixed (S.End E.Comma))) = Unit {0}
 Between (Shared (T.Fixed (S.End E.Close))) = Unit {0}
 Between t = ⊥
@@ -61,7 +61,7 @@ between_closes (Shared (T.Fixed (S.End E.Close))) h = tt
 between_closes t h = absurd h
 
 -- what follows a target
-abbrev Behind : Content → Type 0
+abbrev pub Behind : Content → Type 0
 Behind (Shared (T.Fixed (S.End E.Comma))) = Unit {0}
 Behind (Shared (T.Fixed (S.End E.CloseBrace))) = Unit {0}
 Behind (Word W.Do) = Unit {0}
@@ -73,7 +73,7 @@ no_list m r x (Shared (T.Fixed (S.End E.CloseBrace))) h = refl
 no_list m r x (Word W.Do) h = refl
 no_list m r x t h = absurd h
 
-abbrev form_of : Words → Form
+abbrev pub form_of : Words → Form
 form_of NoWords = Plain
 form_of (MoreWords ws p w) = Modified
 
@@ -86,23 +86,23 @@ IsFalse false = Unit {0}
 IsFalse true = ⊥
 
 -- where a guard may stand, the rule is matched
-matched_sort : (unique lazy : Bool) → (if unique then lazy else true) ≡ true → lazy ≡ false → (if unique then R.Unique else if lazy then R.Lazy else R.Matched) ≡ R.Matched
+pub matched_sort : (unique lazy : Bool) → (if unique then lazy else true) ≡ true → lazy ≡ false → (if unique then R.Unique else if lazy then R.Lazy else R.Matched) ≡ R.Matched
 matched_sort false false h k = refl
 matched_sort true false h k = absurd (subst IsTrue (sym h) tt)
 matched_sort u true h k = absurd (subst IsFalse (sym k) tt)
 
 module _ (b : Bool) where
-  reads_targets_models : (ms : Models) (n : Name) (r : List Mark) → run b (AtModel (ForTargets n [])) (models_marks ms ++ r) ≡ run b (AtModelEnd (ForTargets n (models ms))) r
+  pub reads_targets_models : (ms : Models) (n : Name) (r : List Mark) → run b (AtModel (ForTargets n [])) (models_marks ms ++ r) ≡ run b (AtModelEnd (ForTargets n (models ms))) r
   reads_targets_models (OneModel m p x) n r = refl
   reads_targets_models (MoreModels ms c m p x) n r =
       rw (append_assoc (models_marks ms) (comma c ∷ called m ∷ sign p S.Colon ∷ called x ∷ []) r) (reads_targets_models ms n (comma c ∷ called m ∷ sign p S.Colon ∷ called x ∷ r))
 
-  reads_sources_models : (ms : Models) (n : Name) (ts : List ModelDecl) (r : List Mark) → run b (AtModel (ForSources n ts [])) (models_marks ms ++ r) ≡ run b (AtModelEnd (ForSources n ts (models ms))) r
+  pub reads_sources_models : (ms : Models) (n : Name) (ts : List ModelDecl) (r : List Mark) → run b (AtModel (ForSources n ts [])) (models_marks ms ++ r) ≡ run b (AtModelEnd (ForSources n ts (models ms))) r
   reads_sources_models (OneModel m p x) n ts r = refl
   reads_sources_models (MoreModels ms c m p x) n ts r =
       rw (append_assoc (models_marks ms) (comma c ∷ called m ∷ sign p S.Colon ∷ called x ∷ []) r) (reads_sources_models ms n ts (comma c ∷ called m ∷ sign p S.Colon ∷ called x ∷ r))
 
-  first_params : (ps : Params) (o : Owner) (r : List Mark) → run b (AtFirstParam o) (params_marks ps ++ r) ≡ run b (AtParam o []) (params_marks ps ++ r)
+  pub first_params : (ps : Params) (o : Owner) (r : List Mark) → run b (AtFirstParam o) (params_marks ps ++ r) ≡ run b (AtParam o []) (params_marks ps ++ r)
   first_params (OneParam n p k) o r = refl
   first_params (MoreParams ps c n p k) o r =
       rw (append_assoc (params_marks ps) (comma c ∷ called n ∷ sign p S.Colon ∷ kind_marks k) r) (first_params ps o (comma c ∷ called n ∷ sign p S.Colon ∷ (kind_marks k ++ r)))
@@ -116,13 +116,13 @@ module _ (b : Bool) where
   reads_inside : (ps : Params) (o : Owner) (q : Place) (r : List Mark) → run b (AtFirstParam o) (params_marks ps ++ (close q ∷ r)) ≡ run b (with_all o (params ps)) r
   reads_inside ps o q r = first_params ps o (close q ∷ r) ∙ reads_params ps o (close q) r
 
-  reads_signature : (s : Signature) (m : Module) (c : Option KindNode) (n : Name) (p : Place) (r : List Mark) → run b (AtSignature m c n) (signature_marks s ++ (sign p S.Colon ∷ r)) ≡ run b (InKind (ForResult m c n (signature s)) [] N.Kind) r
+  pub reads_signature : (s : Signature) (m : Module) (c : Option KindNode) (n : Name) (p : Place) (r : List Mark) → run b (AtSignature m c n) (signature_marks s ++ (sign p S.Colon ∷ r)) ≡ run b (InKind (ForResult m c n (signature s)) [] N.Kind) r
   reads_signature Attribute m c n p r = refl
   reads_signature (Operation (NoParams q s)) m c n p r = refl
   reads_signature (Operation (SomeParams q ps s)) m c n p r =
       rw (append_assoc (params_marks ps) (close s ∷ []) (sign p S.Colon ∷ r)) (reads_inside ps (OfHelper m c n) s (sign p S.Colon ∷ r))
 
-  reads_context : (c : Context) (m : Module) (q : Place) (r : List Mark) → ContextFits c → run b (AtHelper m) (context_marks c ++ (word q W.Def ∷ r)) ≡ run b (AtDefColon m (context c)) r
+  pub reads_context : (c : Context) (m : Module) (q : Place) (r : List Mark) → ContextFits c → run b (AtHelper m) (context_marks c ++ (word q W.Def ∷ r)) ≡ run b (AtDefColon m (context c)) r
   reads_context NoContext m q r f = refl
   reads_context (InContext p (Basic s w)) m q r f = refl
   reads_context (InContext p (Class x s y)) m q r f = refl
@@ -156,7 +156,7 @@ module _ (b : Bool) where
       rw (append_assoc (words_marks (MoreWords ws q v)) (modifier p w ∷ []) r)
       (reads_words ws q v m (modifier p w ∷ r) f.0 ∙ reads_modifier m (modifiers (MoreWords ws q v)) p w r f.1)
 
-  reads_rule_word : (ws : Words) (p : Place) (m : Module) (r : List Mark) → WordsFit ws → may_stand (modifiers ws) ≡ true
+  pub reads_rule_word : (ws : Words) (p : Place) (m : Module) (r : List Mark) → WordsFit ws → may_stand (modifiers ws) ≡ true
       → run b (AtItem m) (words_marks ws ++ (word p W.Rule ∷ r)) ≡ run b (AtRuleName m (form_of ws) (sort_of (modifiers ws)) (modifiers ws).is_abstract) r
   reads_rule_word NoWords p m r f h = refl
   reads_rule_word (MoreWords ws q w) p m r f h = reads_words ws q w m (word p W.Rule ∷ r) f ∙ stood (modifiers (MoreWords ws q w)) h
@@ -164,14 +164,14 @@ module _ (b : Bool) where
       stood : (x : Modifiers) → may_stand x ≡ true → run b (AtWord m x) (word p W.Rule ∷ r) ≡ run b (AtRuleName m Modified (sort_of x) x.is_abstract) r
       stood x h = ap (λ t. after (if t then Goes (AtRuleName m Modified (sort_of x) x.is_abstract) else Refuses) (word p W.Rule ∷ r) (λ u. run b u r)) h
 
-  reads_parent : (ws : Words) (x : Parent) (q : Place) (m : Module) (s : RuleSort) (a : Bool) (n : Name) (r : List Mark)
+  pub reads_parent : (ws : Words) (x : Parent) (q : Place) (m : Module) (s : RuleSort) (a : Bool) (n : Name) (r : List Mark)
       → run b (AtRuleOpen m (form_of ws) (bare s a n)) (parent_marks x ++ (brace q ∷ r)) ≡ run b (AtFrom m (rule s a n (parent x) [] [] None [] [] None)) r
   reads_parent NoWords NoParent q m s a n r = refl
   reads_parent NoWords (Extends p y) q m s a n r = refl
   reads_parent (MoreWords ws p w) NoParent q m s a n r = refl
   reads_parent (MoreWords ws p w) (Extends t y) q m s a n r = refl
 
-  reads_sources : (ss : Sources) (m : Module) (s : RuleSort) (a : Bool) (n : Name) (x : Option Name) (r : List Mark)
+  pub reads_sources : (ss : Sources) (m : Module) (s : RuleSort) (a : Bool) (n : Name) (x : Option Name) (r : List Mark)
       → run b (AtSource m (rule s a n x [] [] None [] [] None)) (sources_marks ss ++ r) ≡ run b (AtSourceEnd m (rule s a n x [] (sources ss) None [] [] None)) r
   reads_sources (OneSource y p z q c) m s a n x r = refl
   reads_sources (MoreSources ss t y p z q c) m s a n x r =
@@ -185,7 +185,7 @@ module _ (b : Bool) where
   reads_no_guard NoUsing NoTo (SomeBlock s q ss z) p m x r = refl
   reads_no_guard NoUsing NoTo NoBlock p m x r = refl
 
-  reads_locals : (ls : Locals) (m : Module) (s : RuleSort) (a : Bool) (n : Name) (x : Option Name) (ps : List Param) (ss : List Pattern) (g : Option Expr) (r : List Mark) → LocalsFit b ls
+  pub reads_locals : (ls : Locals) (m : Module) (s : RuleSort) (a : Bool) (n : Name) (x : Option Name) (ps : List Param) (ss : List Pattern) (g : Option Expr) (r : List Mark) → LocalsFit b ls
       → run b (AtLocal m (rule s a n x ps ss g [] [] None)) (locals_marks ls ++ r) ≡ run b (AtLocal m (rule s a n x ps ss g (locals ls) [] None)) r
   reads_locals NoLocals m s a n x ps ss g r f = refl
   reads_locals (MoreLocals ls y p k q e z) m s a n x ps ss g r f =
@@ -215,7 +215,7 @@ module _ (b : Bool) where
       (rw (append_assoc (locals_marks ls) (closing_brace z ∷ later_marks t y p) r)
       (reads_locals ls m s a n x ps ss g (closing_brace z ∷ (later_marks t y p ++ r)) f))
 
-  reads_binds : (bs : Binds) (m : Module) (x : Rule) (n : Name) (c : ClassRef) (t : Mark) (r : List Mark) → BindsFit b bs → Between t.content
+  pub reads_binds : (bs : Binds) (m : Module) (x : Rule) (n : Name) (c : ClassRef) (t : Mark) (r : List Mark) → BindsFit b bs → Between t.content
       → run b (AtBind m x (target n c [])) (binds_marks bs ++ (t ∷ r)) ≡ after (comma_or_close t.content (AtBind m x (target n c (binds bs))) (AtTargetEnd m (with_target x (target n c (binds bs))))) (t ∷ r) (λ u. run b u r)
   reads_binds (OneBind y p e) m x n c t r f h = reads_expr b e (ForBind m x (target n c []) y) t r f (between_closes t.content h)
   reads_binds (MoreBinds bs q y p e) m x n c t r f h =
@@ -223,12 +223,12 @@ module _ (b : Bool) where
       (reads_binds bs m x n c (comma q) (called y ∷ word p W.Gives ∷ (expression e ++ (t ∷ r))) f.0 tt
       ∙ reads_expr b e (ForBind m x (target n c (binds bs)) y) t r f.1 (between_closes t.content h))
 
-  first_binds : (bs : Binds) (m : Module) (x : Rule) (y : Target) (r : List Mark) → run b (AtFirstBind m x y) (binds_marks bs ++ r) ≡ run b (AtBind m x y) (binds_marks bs ++ r)
+  pub first_binds : (bs : Binds) (m : Module) (x : Rule) (y : Target) (r : List Mark) → run b (AtFirstBind m x y) (binds_marks bs ++ r) ≡ run b (AtBind m x y) (binds_marks bs ++ r)
   first_binds (OneBind n p e) m x y r = refl
   first_binds (MoreBinds bs q n p e) m x y r =
       rw (append_assoc (binds_marks bs) (comma q ∷ called n ∷ word p W.Gives ∷ expression e) r) (first_binds bs m x y (comma q ∷ called n ∷ word p W.Gives ∷ (expression e ++ r)))
 
-  reads_list : (bs : BindList) (m : Module) (x : Rule) (n : Name) (c : ClassRef) (t : Mark) (r : List Mark) → ListFits b bs → Behind t.content
+  pub reads_list : (bs : BindList) (m : Module) (x : Rule) (n : Name) (c : ClassRef) (t : Mark) (r : List Mark) → ListFits b bs → Behind t.content
       → run b (AtBinds m x (target n c [])) (list_marks bs ++ (t ∷ r)) ≡ after (target_end m (with_target x (target n c (bind_list bs))) t.content) (t ∷ r) (λ u. run b u r)
   reads_list NoList m x n c t r f h = ap (λ u. after u (t ∷ r) (λ v. run b v r)) (no_list m x (target n c []) t.content h)
   reads_list (EmptyList p q) m x n c t r f h = refl
@@ -236,7 +236,7 @@ module _ (b : Bool) where
       rw (append_assoc (binds_marks bs) (close q ∷ []) (t ∷ r))
       (first_binds bs m x (target n c []) (close q ∷ t ∷ r) ∙ reads_binds bs m x n c (close q) (t ∷ r) f tt)
 
-  reads_targets : (ts : Targets) (m : Module) (s : RuleSort) (a : Bool) (n : Name) (x : Option Name) (ps : List Param) (ss : List Pattern) (g : Option Expr) (ls : List LocalVar) (t : Mark) (r : List Mark) → TargetsFit b ts → Behind t.content
+  pub reads_targets : (ts : Targets) (m : Module) (s : RuleSort) (a : Bool) (n : Name) (x : Option Name) (ps : List Param) (ss : List Pattern) (g : Option Expr) (ls : List LocalVar) (t : Mark) (r : List Mark) → TargetsFit b ts → Behind t.content
       → run b (AtTarget m (rule s a n x ps ss g ls [] None)) (targets_marks ts ++ (t ∷ r)) ≡ after (target_end m (rule s a n x ps ss g ls (targets ts) None) t.content) (t ∷ r) (λ u. run b u r)
   reads_targets (OneTarget y p z q c bs) m s a n x ps ss g ls t r f h = reads_list bs m (rule s a n x ps ss g ls [] None) y (class z c) t r f h
   reads_targets (MoreTargets ts v y p z q c bs) m s a n x ps ss g ls t r f h =
@@ -246,7 +246,7 @@ module _ (b : Bool) where
       ∙ reads_list bs m (rule s a n x ps ss g ls (targets ts) None) y (class z c) t r f.1 h)
 
   mutual
-    reads_stat : (s : WrittenStat) (k : Blocks) (zs : List Stat) (r : List Mark) → StatFits b s → NotElse r → run b (AtStat k zs) (stat_marks s ++ r) ≡ run b (AtStat k (zs ++ (stat s ∷ []))) r
+    pub reads_stat : (s : WrittenStat) (k : Blocks) (zs : List Stat) (r : List Mark) → StatFits b s → NotElse r → run b (AtStat k zs) (stat_marks s ++ r) ≡ run b (AtStat k (zs ++ (stat s ∷ []))) r
     reads_stat (Eval e p) k zs r f h =
         rw (append_assoc (expression e) (sign p S.Semicolon ∷ []) r)
         (begins_stat b e k zs (sign p S.Semicolon ∷ r) f.1 f.0 ∙ reads_expr b e (ForStat k zs) (sign p S.Semicolon) r f.1 tt)
@@ -280,13 +280,13 @@ module _ (b : Bool) where
         (reads_expr b e (ForValues k zs n) (close t) (brace u ∷ (stats_marks ss ++ (closing_brace v ∷ r))) f.0 tt
         ∙ reads_stats ss (InFor k zs n (tree_of e)) (closing_brace v ∷ r) f.1 tt))
 
-    reads_stats : (ss : Stats) (k : Blocks) (r : List Mark) → StatsFit b ss → NotElse r → run b (AtStat k []) (stats_marks ss ++ r) ≡ run b (AtStat k (stats ss)) r
+    pub reads_stats : (ss : Stats) (k : Blocks) (r : List Mark) → StatsFit b ss → NotElse r → run b (AtStat k []) (stats_marks ss ++ r) ≡ run b (AtStat k (stats ss)) r
     reads_stats NoStats k r f h = refl
     reads_stats (MoreStats ss s) k r f h =
         rw (append_assoc (stats_marks ss) (stat_marks s) r)
         (reads_stats ss k (stat_marks s ++ r) f.0 (stat_not_else s r f.1) ∙ reads_stat s k (stats ss) r f.1 h)
 
-    stat_not_else : (s : WrittenStat) (r : List Mark) → StatFits b s → NotElse (stat_marks s ++ r)
+    pub stat_not_else : (s : WrittenStat) (r : List Mark) → StatFits b s → NotElse (stat_marks s ++ r)
     stat_not_else (Eval e p) r f = rw (append_assoc (expression e) (sign p S.Semicolon ∷ []) r) (expr_not_else b e (sign p S.Semicolon ∷ r) f.1)
     stat_not_else (Assign e p n q v t) r f =
         let tail = sign p S.Dot ∷ called n ∷ word q W.Gives ∷ (expression v ++ (sign t S.Semicolon ∷ [])) in
@@ -331,7 +331,7 @@ module _ (b : Bool) where
       (reads_expr b e (ForGuard m (rule R.Matched a n x [] ss None [] [] None)) (close z) (rest_marks u t y p ++ r) f tt))
   reads_guard (SomeGuard q e z) true u t y p m s a n x ss r h f = absurd f
 
-  reads_started : (x : Start) (ps : Bracketed) (p : Place) (n : Name) (m : Module) (r : List Mark) → StartFits x ps
+  pub reads_started : (x : Start) (ps : Bracketed) (p : Place) (n : Name) (m : Module) (r : List Mark) → StartFits x ps
       → run b (AtItem m) (start_marks x ++ (word p W.Rule ∷ called n ∷ (bracketed_marks ps ++ r))) ≡ run b (AtCalledBrace m (rule (start x) false n None (bracketed ps) [] None [] [] None)) r
   reads_started NoStart (NoParams q s) p n m r f = refl
   reads_started NoStart (SomeParams q ps s) p n m r f = rw (append_assoc (params_marks ps) (close s ∷ []) r) (reads_inside ps (OfRule m (bare R.Matched false n)) s r)
@@ -362,11 +362,11 @@ module _ (b : Bool) where
       (reads_started x ps p n m (brace q ∷ (rest ++ r)) f.0
       ∙ reads_rest u t y z m (start x) false n None (bracketed ps) [] None r f.1))
 
-  reads_item : (i : WrittenItem) (m : Module) (r : List Mark) → ItemFits b i → run b (AtItem m) (item_marks i ++ r) ≡ run b (AtItem (with_item m (item i))) r
+  pub reads_item : (i : WrittenItem) (m : Module) (r : List Mark) → ItemFits b i → run b (AtItem m) (item_marks i ++ r) ≡ run b (AtItem (with_item m (item i))) r
   reads_item (Help h) m r f = reads_helper h m r f
   reads_item (Make w) m r f = reads_rule w m r f
 
-  reads_items : (is : Items) (n : Name) (ts ss : List ModelDecl) (r : List Mark) → ItemsFit b is → run b (AtItem (module_of n ts ss [])) (items_marks is ++ r) ≡ run b (AtItem (module_of n ts ss (items is))) r
+  pub reads_items : (is : Items) (n : Name) (ts ss : List ModelDecl) (r : List Mark) → ItemsFit b is → run b (AtItem (module_of n ts ss [])) (items_marks is ++ r) ≡ run b (AtItem (module_of n ts ss (items is))) r
   reads_items NoItems n ts ss r f = refl
   reads_items (MoreItems is i) n ts ss r f =
       rw (append_assoc (items_marks is) (item_marks i) r) (reads_items is n ts ss (item_marks i ++ r) f.0 ∙ reads_item i (module_of n ts ss (items is)) r f.1)

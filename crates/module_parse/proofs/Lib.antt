@@ -6,6 +6,13 @@ pub mod Sound
 pub mod SoundRules
 pub mod SoundStats
 pub mod Ends
+pub mod Within
+pub mod Breaks
+pub mod Loosely
+pub mod Halts
+pub mod Deeper
+pub mod Found
+pub mod Only
 pub mod Main
 pub mod Refusals
 pub mod Writings

@@ -1,173 +1,25 @@
 -- Reading is exact: what is read is of the grammar, all of the grammar is read, and each refusal is where no module goes on.
-use Rattle.std.proofs.Common.{◌≡◌, List, [], ◌∷◌, ◌++◌, refl, sym, ap, ◌∙◌, subst}
-use Rattle.std.specs.Prelude.{Bool, true, false}
+use Rattle.std.proofs.Common.{◌≡◌, ⊎_elim, ℕ, ◌+◌, List, [], ◌∷◌, ◌++◌, length, refl, sym, ap, ◌∙◌, subst, arith, append_assoc, length-append}
+use Rattle.std.specs.Prelude.{true, false, Option, Some}
+use Rattle.std.specs.Prelude.{None as Nowhere}
 use Rattle.std.proofs.lemmas.List.{append-nil}
 use Rattle.atl_base.specs.declared.place.Place.{Place}
-use Rattle.atl_tree.specs.declared.expr.Expr.{Expr}
 use Rattle.atl_tree.specs.declared.module.Module.{Module}
-use Rattle.atl_tree.specs.declared.module.Stat.{Stat}
-use Rattle.atl_tree.specs.declared.module.Stat.TheVariants as A
-use Rattle.ocl_parse.specs.declared.sign.Ender.TheVariants as E
-use Rattle.ocl_parse.specs.declared.sign.Sign.TheVariants as S
-use Rattle.ocl_parse.specs.declared.symbol.Symbol.TheVariants as T
-use Rattle.ocl_parse.specs.declared.frame.Frame.{Frame}
-use Rattle.ocl_parse.specs.declared.frame.Frame.TheVariants as F
-use Rattle.ocl_parse.specs.declared.frame.Next.{Next}
-use Rattle.ocl_parse.specs.declared.frame.Next.TheVariants as N
-use Rattle.ocl_parse.specs.Machine.{step as step_inside, last as last_inside, Step as StepInside, Goes as GoesInside, Stops as StopsInside, Refuses as RefusesInside, TooDeep as TooDeepInside}
-use Rattle.ocl_parse.proofs.Agrees.{Agrees as AgreesInside, agrees as agrees_inside}
-use Rattle.std.specs.Prelude.{None}
-use Rattle.module_parse.specs.declared.keyword.Keyword.TheVariants as W
-use Rattle.module_parse.specs.Marks.{Content, Word, Shared, Mark, symbol}
-use Rattle.module_parse.specs.Machine.{Blocks, ForExpr, ForStat, State, AtStart, AtCreate, AtItem, InExpr, AtStat, AtIf, AtElse, Step, Goes, Refuses, TooDeep, expr_goes, assigns, in_expr, at_stat, at_if, at_else, step, End, Read, Expected, Deep, too_deep, finish, after, run, read}
-use Rattle.module_parse.specs.Laws.{GoesOn, StopsAt, Tells, Exact, HasOne}
+use Rattle.module_parse.specs.Marks.{Mark}
+use Rattle.module_parse.specs.Grammar.{WrittenModule, ModuleFits, module_marks, module_tree, IsModule}
+use Rattle.module_parse.specs.TooDeep.{deep_in}
+use Rattle.module_parse.specs.Machine.{State, AtStart, Step, Goes, Refuses, TooDeep, step, End, Read, Expected, Deep, finish, after, run, read}
+use Rattle.module_parse.specs.Laws.{GoesOn, StopsAt, NoneEnds, IsShallow, Matches, AllDeep, Tells, Exact, HasOne}
 use Rattle.module_parse.proofs.Accepts.{accepts}
-use Rattle.module_parse.proofs.Stands.{Stands, StepStands}
-use Rattle.module_parse.proofs.SoundStats.{ReadOf, step_stands, sound}
+use Rattle.module_parse.proofs.Stands.{Stands}
+use Rattle.module_parse.proofs.SoundStats.{ReadOf, sound}
 use Rattle.module_parse.proofs.Ends.{completes}
-
--- the step without depth is the one with it, unless that is too deep
-abbrev Agrees : Step → Step → Type 0
-Agrees (TooDeep p) v = Unit {0}
-Agrees u v = v ≡ u
-
-same : (u : Step) → Agrees u u
-same (Goes s) = refl
-same Refuses = refl
-same (TooDeep p) = tt
-
-goes_agree : (o : ForExpr) (t : Content) (u v : StepInside) → AgreesInside u v → Agrees (expr_goes o t u) (expr_goes o t v)
-goes_agree o t (GoesInside gs m) v h = subst (λ w. Agrees (expr_goes o t (GoesInside gs m)) (expr_goes o t w)) (sym h) (same (expr_goes o t (GoesInside gs m)))
-goes_agree o t (StopsInside gs a) v h = subst (λ w. Agrees (expr_goes o t (StopsInside gs a)) (expr_goes o t w)) (sym h) (same (expr_goes o t (StopsInside gs a)))
-goes_agree o t RefusesInside v h = subst (λ w. Agrees (expr_goes o t RefusesInside) (expr_goes o t w)) (sym h) (same (expr_goes o t RefusesInside))
-goes_agree o t (TooDeepInside p) v h = tt
-
-assigns_agree : (t : Content) (o : ForExpr) (fs : List Frame) (n : Next) (u v : Step) → Agrees u v → Agrees (assigns t o fs n u) (assigns t o fs n v)
-assigns_agree (Word W.Gives) (ForStat k ss) fs (N.Named a x) u v h = same (assigns (Word W.Gives) (ForStat k ss) fs (N.Named a x) u)
-assigns_agree t o fs n u v h = h
-
-expr_agrees : (o : ForExpr) (fs : List Frame) (n : Next) (t : Content) (p : Place) → Agrees (in_expr true o fs n t p) (in_expr false o fs n t p)
-expr_agrees o fs n t p =
-    assigns_agree t o fs n (expr_goes o t (step_inside true fs n (symbol t) p)) (expr_goes o t (step_inside false fs n (symbol t) p))
-    (goes_agree o t (step_inside true fs n (symbol t) p) (step_inside false fs n (symbol t) p) (agrees_inside fs n (symbol t) p))
-
-stat_agrees : (k : Blocks) (ss : List Stat) (t : Content) (p : Place) → Agrees (at_stat true k ss t p) (at_stat false k ss t p)
-stat_agrees k ss (Shared (T.Fixed (S.End E.CloseBrace))) p = refl
-stat_agrees k ss (Word W.For) p = refl
-stat_agrees k ss (Shared (T.Fixed S.If)) p = refl
-stat_agrees k ss t p = expr_agrees (ForStat k ss) [] N.Operand t p
-
-if_agrees : (k : Blocks) (ss : List Stat) (q : Place) (t : Content) (p : Place) → Agrees (at_if true k ss q t p) (at_if false k ss q t p)
-if_agrees k ss q (Shared (T.Fixed S.Open)) p = refl
-if_agrees k ss q t p = expr_agrees (ForStat k ss) (F.Condition q ∷ []) N.Operand t p
-
-else_agrees : (k : Blocks) (ss : List Stat) (e : Expr) (zs : List Stat) (t : Content) (p : Place) → Agrees (at_else true k ss e zs t p) (at_else false k ss e zs t p)
-else_agrees k ss e zs (Shared (T.Fixed (S.End E.Else))) p = refl
-else_agrees k ss e zs t p = stat_agrees k (ss ++ (A.If e zs None ∷ [])) t p
-
-agrees : (s : State) (t : Content) (p : Place) → Agrees (step true s t p) (step false s t p)
-agrees AtStart (Word W.Module) p = refl
-agrees AtStart t p = refl
-agrees (AtCreate n) (Word W.Create) p = refl
-agrees (AtCreate n) t p = refl
-agrees (InExpr o fs n) t p = expr_agrees o fs n t p
-agrees (AtStat k ss) t p = stat_agrees k ss t p
-agrees (AtIf k ss q) t p = if_agrees k ss q t p
-agrees (AtElse k ss e zs) t p = else_agrees k ss e zs t p
-agrees s t p = same (step true s t p)
-
-abbrev IsRead : End → Type 0
-IsRead (Read m) = Unit {0}
-IsRead u = ⊥
-
-abbrev rest_of : End → List Mark
-rest_of (Expected r) = r
-rest_of u = []
-
-not_expected : (u : End) (m : Module) (r : List Mark) → u ≡ Read m → u ≡ Expected r → ⊥
-not_expected u m r h k = subst IsRead (sym h ∙ k) tt
-
-not_deep : (u : End) (m : Module) (p : Place) → u ≡ Read m → u ≡ Deep p → ⊥
-not_deep u m p h k = subst IsRead (sym h ∙ k) tt
-
-unread : (u : StepInside) (m : Module) → too_deep u ≡ Read m → ⊥
-unread (TooDeepInside p) m h = not_deep (Deep p) m p h refl
-unread (GoesInside gs n) m h = not_expected (Expected []) m [] h refl
-unread (StopsInside gs a) m h = not_expected (Expected []) m [] h refl
-unread RefusesInside m h = not_expected (Expected []) m [] h refl
-
--- the end of a module is so for every depth
-finish_alike : (s : State) (m : Module) → finish false s ≡ Read m → finish true s ≡ Read m
-finish_alike (AtItem n) m h = h
-finish_alike (InExpr o fs n) m h = absurd (unread (last_inside false fs n) m h)
-finish_alike s m h = absurd (not_expected (Expected []) m [] h refl)
-
-finish_rest : (s : State) (r : List Mark) → finish true s ≡ Expected r → r ≡ []
-finish_rest (AtItem n) r h = absurd (not_expected (Read n) n r refl h)
-finish_rest (InExpr o fs n) r h = sym (ap rest_of h) ∙ on (last_inside true fs n)
-  where
-    on : (u : StepInside) → rest_of (too_deep u) ≡ []
-    on (TooDeepInside p) = refl
-    on (GoesInside gs k) = refl
-    on (StopsInside gs a) = refl
-    on RefusesInside = refl
-finish_rest s r h = sym (ap rest_of h)
-
--- a step that ends the reading
-abbrev Stopped : Step → Type 0
-Stopped (Goes s) = ⊥
-Stopped u = Unit {0}
-
-abbrev nothing : State → End
-nothing s = Expected []
-
-abbrev HaltsAt : State → List Mark → End → Type 0
-HaltsAt u [] end = finish true u ≡ end
-HaltsAt u (t ∷ r) end = Stopped (step true u t.content t.place) × (after (step true u t.content t.place) (t ∷ r) nothing ≡ end)
-
--- the reading comes to a state and ends there
-record Halt (s : State) (ts all : List Mark) (end : End) : Type 0 where
-  pub front : List Mark
-  pub rest : List Mark
-  pub whole : ts ≡ front ++ rest
-  pub state : State
-  pub stands : Stands true state rest all
-  pub leads : (b : Bool) (more : List Mark) → run b s (front ++ more) ≡ run b state more
-  pub here : HaltsAt state rest end
-
-halts : (ts : List Mark) (s : State) (all : List Mark) → Stands true s ts all → Halt s ts all (run true s ts)
-halts [] s all st = record { front = []; rest = []; whole = refl; state = s; stands = st; leads = λ b more. refl; here = refl }
-halts (t ∷ ts) s all st = on (λ u h. halts ts u all h) (step true s t.content t.place) refl (step_stands true s t.content t.place ts all st)
-  where
-    at_once : (v : Step) → step true s t.content t.place ≡ v → Stopped v → after v (t ∷ ts) nothing ≡ after v (t ∷ ts) (λ u. run true u ts) → Halt s (t ∷ ts) all (after v (t ∷ ts) (λ u. run true u ts))
-    at_once v h e k = record {
-      front = [];
-      rest = t ∷ ts;
-      whole = refl;
-      state = s;
-      stands = st;
-      leads = λ b more. refl;
-      here = (subst Stopped (sym h) e, ap (λ w. after w (t ∷ ts) nothing) h ∙ k);
-    }
-
-    both : (u : State) → step true s t.content t.place ≡ Goes u → (b : Bool) → step b s t.content t.place ≡ Goes u
-    both u h true = h
-    both u h false = subst (λ w. Agrees w (step false s t.content t.place)) h (agrees s t.content t.place)
-
-    on : ((u : State) → Stands true u ts all → Halt u ts all (run true u ts)) → (v : Step) → step true s t.content t.place ≡ v → StepStands true ts all v → Halt s (t ∷ ts) all (after v (t ∷ ts) (λ u. run true u ts))
-    on again (Goes u) h i =
-        let x = again u i in
-        record {
-          front = t ∷ x.front;
-          rest = x.rest;
-          whole = ap (λ l. t ∷ l) x.whole;
-          state = x.state;
-          stands = x.stands;
-          leads = λ b more. ap (λ w. after w (t ∷ (x.front ++ more)) (λ v. run b v (x.front ++ more))) (both u h b) ∙ x.leads b more;
-          here = x.here;
-        }
-    on again Refuses h i = at_once Refuses h tt refl
-    on again (TooDeep p) h i = at_once (TooDeep p) h tt refl
+use Rattle.module_parse.proofs.Halts.{agrees, rest_of, not_expected, not_deep, finish_alike, finish_rest, finish_loose, Stopped, nothing, HaltsAt, Halt, halts, refuses_all, too_deep_all}
+use Rattle.module_parse.proofs.Breaks.{fit_module}
+use Rattle.module_parse.proofs.Loosely.{IsStuck}
+use Rattle.module_parse.proofs.Deeper.{stuck_last, Meets, Deeper, deeper}
+use Rattle.module_parse.proofs.Only.{expected_deep, read_deep, deep_same, expected_same, expected_read}
+use Rattle.module_parse.proofs.Found.{Waits, FirstAt, Found, found, unfound}
 
 -- where a text can go on
 goes_on : (front rest all : List Mark) (s : State) → Stands true s rest all → ((more : List Mark) → read false (front ++ more) ≡ run false s more) → GoesOn front
@@ -175,36 +27,12 @@ goes_on front rest all s st h =
     let c = completes true s rest all st in
     (c.more, c.ends.0, subst (ReadOf false (front ++ c.more)) (h c.more ∙ c.ends.1) (sound false (front ++ c.more) AtStart (front ++ c.more) refl))
 
--- a step that refuses does so whatever follows, and without depth
-refuses_all : (v w : Step) (t : Mark) (r s more : List Mark) (k : State → End) → Stopped v → after v (t ∷ r) nothing ≡ Expected s → Agrees v w → after w (t ∷ more) k ≡ Expected (t ∷ more)
-refuses_all (Goes u) w t r s more k e h g = absurd e
-refuses_all Refuses w t r s more k e h g = ap (λ x. after x (t ∷ more) k) g
-refuses_all (TooDeep p) w t r s more k e h g = absurd (subst IsDeep h tt)
-  where
-    IsDeep : End → Type 0
-    IsDeep (Deep p) = Unit {0}
-    IsDeep u = ⊥
-
-too_deep_all : (v : Step) (t : Mark) (r more : List Mark) (p : Place) (k : State → End) → Stopped v → after v (t ∷ r) nothing ≡ Deep p → after v (t ∷ more) k ≡ Deep p
-too_deep_all (Goes u) t r more p k e h = absurd e
-too_deep_all Refuses t r more p k e h = absurd (subst IsExpected h tt)
-  where
-    IsExpected : End → Type 0
-    IsExpected (Expected r) = Unit {0}
-    IsExpected u = ⊥
-too_deep_all (TooDeep q) t r more p k e h = h
-
 stops : (front rest : List Mark) (s : State) (r : List Mark) → ((more : List Mark) → read false (front ++ more) ≡ run false s more) → HaltsAt s rest (Expected r) → StopsAt false front rest
 stops front [] s r h k = λ m x.
     not_expected (finish true s) m r (finish_alike s m (sym (h []) ∙ ap (read false) (append-nil front) ∙ accepts false front m x)) k
 stops front (t ∷ rest) s r h k = λ more m x.
     not_expected (run false s (t ∷ more)) m (t ∷ more) (sym (h (t ∷ more)) ∙ accepts false (front ++ (t ∷ more)) m x)
     (refuses_all (step true s t.content t.place) (step false s t.content t.place) t rest r more (λ u. run false u more) k.0 k.1 (agrees s t.content t.place))
-
-stops_deep : (front rest : List Mark) (s : State) (p : Place) → ((more : List Mark) → read true (front ++ more) ≡ run true s more) → HaltsAt s rest (Deep p) → StopsAt true front rest
-stops_deep front [] s p h k = λ m x. not_deep (finish true s) m p (sym (h []) ∙ ap (read true) (append-nil front) ∙ accepts true front m x) k
-stops_deep front (t ∷ rest) s p h k = λ more m x.
-    not_deep (run true s (t ∷ more)) m p (sym (h (t ∷ more)) ∙ accepts true (front ++ (t ∷ more)) m x) (too_deep_all (step true s t.content t.place) t rest more p (λ u. run true u more) k.0 k.1)
 
 -- where reading halts the rest is the answer's
 halt_rest : (s : State) (rest r : List Mark) → HaltsAt s rest (Expected r) → r ≡ rest
@@ -220,22 +48,164 @@ halt_rest s (t ∷ rest) r k = on (step true s t.content t.place) k.0 k.1
         IsDeep (Deep p) = Unit {0}
         IsDeep u = ⊥
 
-tells : (ts : List Mark) (end : End) → Halt AtStart ts ts end → ReadOf true ts end → Tells ts end
-tells ts (Read m) x y = y
-tells ts (Expected r) x y =
+-- what is read without depth is of the grammar
+spoken : (ts : List Mark) (m : Module) → read false ts ≡ Read m → IsModule false ts m
+spoken ts m h = subst (ReadOf false ts) h (sound false ts AtStart ts refl)
+
+-- a module in which reading finds an expression too deep has one
+deepest : (w : WrittenModule) (p : Place) → ModuleFits false w → read true (module_marks w) ≡ Deep p → (k : ℕ) × (deep_in w ≡ Some k)
+deepest w p f h = on (deep_in w) refl
+  where
+    on : (o : Option ℕ) → deep_in w ≡ o → (k : ℕ) × (deep_in w ≡ Some k)
+    on Nowhere e = absurd (not_deep (read true (module_marks w)) (module_tree w) p (accepts true (module_marks w) (module_tree w) (w, fit_module w f e, refl, refl)) h)
+    on (Some k) e = (k, e)
+
+runs_deep : (s : State) (more : List Mark) (p : Place) → HaltsAt s more (Deep p) → run true s more ≡ Deep p
+runs_deep s [] p k = k
+runs_deep s (t ∷ r) p k = too_deep_all (step true s t.content t.place) t r r p (λ v. run true v r) k.0 k.1
+
+-- no module ends where more is waited for
+none_waits : (front : List Mark) → Waits front → NoneEnds true front
+none_waits front h = λ m x. not_expected (read true front) m [] (accepts true front m x) h
+
+shallow : (ts : List Mark) (r : List Mark) (x : Halt AtStart ts ts (Expected r)) → read true ts ≡ Expected r → IsShallow x.front
+shallow ts r x q = λ more w k f e h. unfound w k x.front more x.state f h e (x.leads true) x.rest r x.here (ap (read true) (sym x.whole) ∙ q)
+
+-- where reading halts because of the depth, each module that goes on so has its first expression that is too deep there
+module _ (ts : List Mark) (p : Place) (x : Halt AtStart ts ts (Deep p)) where
+  abbrev Here : ℕ → List Mark → Place → Type 0
+  Here k more q = Found k x.front more x.state q
+
+  here : (w : WrittenModule) (more : List Mark) (q : Place) → ModuleFits false w → module_marks w ≡ x.front ++ more → HaltsAt x.state more (Deep q) → (k : ℕ) × (deep_in w ≡ Some k) × Here k more q
+  here w more q f e a =
+      let d = deepest w q f (ap (read true) e ∙ x.leads true more ∙ runs_deep x.state more q a) in
+      (d.0, d.1, found w d.0 x.front more x.state f d.1 e (x.leads true) q x.along a)
+
+  not_within : (e : Module) (more : List Mark) (q : Place) → IsModule true (x.front ++ more) e → HaltsAt x.state more (Deep q) → ⊥
+  not_within e more q f a = not_deep (read true (x.front ++ more)) e q (accepts true (x.front ++ more) e f) (x.leads true more ∙ runs_deep x.state more q a)
+
+  abbrev Result : Type 0
+  Result = Tells ts (Deep p)
+
+  -- it begins with the first of the rest
+  ahead : (rest : List Mark) → x.rest ≡ rest → (d : Deeper x.state rest p) → (w : WrittenModule) → ModuleFits false w → module_marks w ≡ x.front ++ d.more → (k : ℕ) → deep_in w ≡ Some k
+      → (IsStuck x.state → ⊥) → length x.front ≡ k → Waits x.front → FirstAt d.more p → Result
+  ahead rest i d w f e k h s c v at = on rest d.more i (d.meets s) e at
+    where
+      on : (rest more : List Mark) → x.rest ≡ rest → Meets rest more → module_marks w ≡ x.front ++ more → FirstAt more p → Result
+      on [] more i m e at = absurd m
+      on (t ∷ rest) [] i m e at = absurd m
+      on (t ∷ rest) (u ∷ more) i m e at = (
+        x.front,
+        t,
+        rest,
+        x.whole ∙ ap (λ l. x.front ++ l) i,
+        ap (λ y. y.place) m ∙ at,
+        (more, w, f, e ∙ ap (λ y. x.front ++ (y ∷ more)) (sym m), h ∙ ap (λ y. Some y) (sym c)),
+        all,
+        λ l e z y. not_within e (t ∷ l) p y (halt l),
+        none_waits x.front v,
+      )
+        where
+          halt : (l : List Mark) → HaltsAt x.state (t ∷ l) (Deep p)
+          halt l =
+              let a : HaltsAt x.state (t ∷ rest) (Deep p) = subst (λ y. HaltsAt x.state y (Deep p)) i x.here in
+              (a.0, too_deep_all (step true x.state t.content t.place) t rest l p nothing a.0 a.1)
+
+          all : AllDeep x.front t rest
+          all = λ l w f e z.
+              let g = here w (t ∷ l) p f e (halt l) in
+              g.1 ∙ ⊎_elim (λ y. ap (λ j. Some j) (sym y.1)) (λ y. absurd (s y.0)) g.2
+
+  -- it began with the name before the rest
+  behind : (more : List Mark) (w : WrittenModule) → ModuleFits false w → module_marks w ≡ x.front ++ more → (k : ℕ) → deep_in w ≡ Some k
+      → IsStuck x.state → (front : List Mark) (t : Mark) → x.front ≡ front ++ (t ∷ []) → length front ≡ k → Waits front → t.place ≡ p → Result
+  behind more w f e k h s front t i c v at = (
+    front,
+    t,
+    x.rest,
+    x.whole ∙ on x.rest,
+    at,
+    (more, w, f, e ∙ on more, h ∙ ap (λ y. Some y) (sym c)),
+    all,
+    λ l e z y. let a = halt l x.rest x.here z in not_within e l a.0 (subst (λ j. IsModule true j e) (sym (on l)) y) a.1,
+    none_waits front v,
+  )
+    where
+      on : (l : List Mark) → x.front ++ l ≡ front ++ (t ∷ l)
+      on l = ap (λ y. y ++ l) i ∙ append_assoc front (t ∷ []) l
+
+      halt : (l rest : List Mark) → HaltsAt x.state rest (Deep p) → Matches l rest → (q : Place) × HaltsAt x.state l (Deep q)
+      halt [] rest a z = stuck_last x.state s
+      halt (u ∷ l) [] a z = absurd z
+      halt (u ∷ l) (y ∷ rest) a z =
+          let b : HaltsAt x.state (u ∷ rest) (Deep p) = subst (λ j. HaltsAt x.state (j ∷ rest) (Deep p)) (sym z) a in
+          (p, (b.0, too_deep_all (step true x.state u.content u.place) u rest l p nothing b.0 b.1))
+
+      all : AllDeep front t x.rest
+      all = λ l w f e z.
+          let a = halt l x.rest x.here z in
+          let g = here w l a.0 f (e ∙ sym (on l)) a.1 in
+          g.1 ∙ ⊎_elim
+          (λ y. absurd (y.0 s))
+          (λ y. ap (λ j. Some j) (let n : length front + 1 ≡ length y.1 + 1 = sym (length-append front (t ∷ [])) ∙ ap length (sym i ∙ y.3) ∙ length-append y.1 (y.2 ∷ []) in omega (arith, n, y.4)))
+          g.2
+
+  tells_deep : Result
+  tells_deep =
+      let d = deeper x.front x.state x.rest p x.along x.here in
+      let w = spoken (x.front ++ d.more) d.tree (x.leads false d.more ∙ d.loose) in
+      let g = here w.0 d.more p w.1 w.2 d.here in
+      ⊎_elim (λ y. ahead x.rest refl d w.0 w.1 w.2 g.0 g.1 y.0 y.1 y.2 y.3) (λ y. behind d.more w.0 w.1 w.2 g.0 g.1 y.0 y.1 y.2 y.3 y.4 y.5 y.6) g.2
+
+tells : (ts : List Mark) (end : End) → Halt AtStart ts ts end → ReadOf true ts end → read true ts ≡ end → Tells ts end
+tells ts (Read m) x y z = y
+tells ts (Expected r) x y z =
     let i = halt_rest x.state x.rest r x.here in (
       x.front,
       x.whole ∙ ap (λ l. x.front ++ l) (sym i),
       goes_on x.front x.rest ts x.state x.stands (x.leads false),
       subst (λ l. StopsAt false x.front l) (sym i) (stops x.front x.rest x.state r (x.leads false) x.here),
+      shallow ts r x z,
     )
-tells ts (Deep p) x y = (x.front, x.rest, x.whole, goes_on x.front x.rest ts x.state x.stands (x.leads false), stops_deep x.front x.rest x.state p (x.leads true) x.here)
+tells ts (Deep p) x y z = tells_deep ts p x
+
+-- a module that fits with the depth fits without it
+loosened : (ts : List Mark) (m : Module) → IsModule true ts m → IsModule false ts m
+loosened ts m h = on (subst (Halt AtStart ts ts) (accepts true ts m h) (halts ts AtStart ts refl))
+  where
+    on : Halt AtStart ts ts (Read m) → IsModule false ts m
+    on x = spoken ts m (ap (read false) x.whole ∙ x.leads false x.rest ∙ last x.rest x.here)
+      where
+        never : (v : Step) (t : Mark) (r : List Mark) → Stopped v → after v (t ∷ r) nothing ≡ Read m → ⊥
+        never (Goes u) t r n k = n
+        never Refuses t r n k = not_expected (Expected (t ∷ r)) m (t ∷ r) k refl
+        never (TooDeep q) t r n k = not_deep (Deep q) m q k refl
+
+        last : (r : List Mark) → HaltsAt x.state r (Read m) → run false x.state r ≡ Read m
+        last [] k = finish_loose x.state m k
+        last (t ∷ r) k = absurd (never (step true x.state t.content t.place) t r k.0 k.1)
+
+telling : (ts : List Mark) → Tells ts (read true ts)
+telling ts = tells ts (read true ts) (halts ts AtStart ts refl) (sound true ts AtStart ts refl) refl
+
+only : (ts : List Mark) (end : End) → Tells ts end → read true ts ≡ end
+only ts (Read m) x = accepts true ts m x
+only ts (Expected r) x = on (read true ts) refl (telling ts)
+  where
+    on : (v : End) → read true ts ≡ v → Tells ts v → read true ts ≡ Expected r
+    on (Read m) i y = absurd (expected_read loosened ts r m x y)
+    on (Expected s) i y = i ∙ ap Expected (expected_same ts s r y x)
+    on (Deep p) i y = absurd (expected_deep ts r p x y)
+only ts (Deep p) x = on (read true ts) refl (telling ts)
+  where
+    on : (v : End) → read true ts ≡ v → Tells ts v → read true ts ≡ Deep p
+    on (Read m) i y = absurd (read_deep ts m p y x)
+    on (Expected s) i y = absurd (expected_deep ts s p y x)
+    on (Deep q) i y = i ∙ ap Deep (deep_same ts q p y x)
 
 pub exact : (ts : List Mark) → Exact ts
-exact ts = record {
-  tells = tells ts (read true ts) (halts ts AtStart ts refl) (sound true ts AtStart ts refl);
-  reads = λ m h. accepts true ts m h;
-}
+exact ts = record { tells = telling ts; only = only ts; reads = accepts true ts }
 
 abbrev module_or : Module → End → Module
 module_or d (Read m) = m

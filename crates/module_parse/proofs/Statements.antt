@@ -21,7 +21,7 @@ use Rattle.module_parse.specs.Grammar.{begins_if, Whole}
 use Rattle.module_parse.specs.Machine.{Blocks, ForStat, InExpr, AtStat, AtIf, AtElse, run}
 use Rattle.module_parse.proofs.Inside.{got, read_alone}
 
-abbrev NoElse : Content → Type 0
+abbrev pub NoElse : Content → Type 0
 NoElse (Shared (T.Fixed (S.End E.Else))) = ⊥
 NoElse c = Unit {0}
 

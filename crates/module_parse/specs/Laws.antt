@@ -1,5 +1,5 @@
 -- What is said of reading: what it reads is of the grammar, all of the grammar is read, and each refusal is the right one.
-use Rattle.std.specs.Prelude.{◌≡◌, List, [], ◌∷◌, ◌++◌, Bool, true, false, map}
+use Rattle.std.specs.Prelude.{◌≡◌, ◌≤◌, ℕ, length, List, [], ◌∷◌, ◌++◌, Bool, true, false, Some, map}
 use Rattle.atl_tree.specs.declared.module.Module.{Module}
 use Rattle.atl_tree.specs.declared.token.Token.{Token}
 use Rattle.ocl_parse.specs.Symbols.{Lexeme, lexeme, lexemes}
@@ -7,6 +7,7 @@ use Rattle.module_parse.specs.Marks.{Mark, symbol, marks}
 use Rattle.module_parse.specs.Grammar.{WrittenModule, module_marks, module_tree, ModuleFits, IsModule}
 use Rattle.module_parse.specs.Writing.{module_written}
 use Rattle.module_parse.specs.Places.{placed_module}
+use Rattle.module_parse.specs.TooDeep.{deep_in}
 use Rattle.module_parse.specs.Machine.{End, Read, Expected, Deep, read}
 
 -- some module of the grammar, whatever its depth, begins so
@@ -18,13 +19,47 @@ abbrev pub StopsAt : Bool → List Mark → List Mark → Type 0
 StopsAt b front [] = (m : Module) → IsModule b front m → ⊥
 StopsAt b front (t ∷ rest) = (more : List Mark) (m : Module) → IsModule b (front ++ (t ∷ more)) m → ⊥
 
+-- no module ends there
+abbrev pub NoneEnds : Bool → List Mark → Type 0
+NoneEnds b front = (m : Module) → IsModule b front m → ⊥
+
+-- in no module of the grammar that begins so does an expression begin there that stands too deep
+abbrev pub IsShallow : List Mark → Type 0
+IsShallow front = (more : List Mark) (w : WrittenModule) (k : ℕ) → ModuleFits false w → module_marks w ≡ front ++ more → deep_in w ≡ Some k → length front ≤ k
+
+-- these marks end, or begin with the first of the rest
+abbrev pub Matches : List Mark → List Mark → Type 0
+Matches [] rest = Unit {0}
+Matches (t ∷ more) [] = ⊥
+Matches (t ∷ more) (u ∷ rest) = t ≡ u
+
+-- the first expression that stands too deep begins behind the front
+abbrev pub IsDeepBehind : List Mark → WrittenModule → Type 0
+IsDeepBehind front w = deep_in w ≡ Some (length front)
+
+-- in some module of the grammar, whatever its depth, that begins so the first that stands too deep begins with the mark
+abbrev pub HasDeep : List Mark → Mark → Type 0
+HasDeep front t = (more : List Mark) × (w : WrittenModule) × ModuleFits false w × (module_marks w ≡ front ++ (t ∷ more)) × IsDeepBehind front w
+
+-- and so it is in each that begins so and, where it goes on, does so with the first of the rest
+abbrev pub AllDeep : List Mark → Mark → List Mark → Type 0
+AllDeep front t rest = (more : List Mark) (w : WrittenModule) → ModuleFits false w → module_marks w ≡ front ++ (t ∷ more) → Matches more rest → IsDeepBehind front w
+
+-- within the depth there is none
+abbrev pub NoneShallow : List Mark → Mark → List Mark → Type 0
+NoneShallow front t rest = (more : List Mark) (m : Module) → Matches more rest → IsModule true (front ++ (t ∷ more)) m → ⊥
+
 abbrev pub Tells : List Mark → End → Type 0
 Tells ts (Read m) = IsModule true ts m
-Tells ts (Expected rest) = (front : List Mark) × (ts ≡ front ++ rest) × GoesOn front × StopsAt false front rest
-Tells ts (Deep p) = (front : List Mark) × (rest : List Mark) × (ts ≡ front ++ rest) × GoesOn front × StopsAt true front rest
+Tells ts (Expected rest) = (front : List Mark) × (ts ≡ front ++ rest) × GoesOn front × StopsAt false front rest × IsShallow front
+Tells ts (Deep p) =
+    (front : List Mark) × (t : Mark) × (rest : List Mark) × (ts ≡ front ++ (t ∷ rest)) × (t.place ≡ p) × HasDeep front t × AllDeep front t rest
+    × NoneShallow front t rest × NoneEnds true front
 
 pub record Exact (ts : List Mark) : Type 0 where
   pub tells : Tells ts (read true ts)
+  -- and of no other answer is it told
+  pub only : (end : End) → Tells ts end → read true ts ≡ end
   pub reads : (m : Module) → IsModule true ts m → read true ts ≡ Read m
 
 -- what is canonically written for a module's tree is of the grammar, whatever its depth, and has that tree up to places

@@ -3,6 +3,7 @@ pub mod Marks
 pub mod Parts
 pub mod Grammar
 pub mod Machine
+pub mod TooDeep
 pub mod Laws
 pub mod Writing
 pub mod Printed

@@ -5,7 +5,8 @@ ghost use Rattle.module_parse.specs.Marks.{Mark};
 ghost use Rattle.module_parse.specs.Grammar.{WrittenModule};
 ghost use Rattle.module_parse.specs.Laws.{Exact, HasOne, IsCanonical, ReadsBack, SharesSymbols};
 
-/// What is read is a module of the grammar, all of the grammar is read, and a refusal stands where no module goes on.
+/// What is read is a module of the grammar, and all of the grammar is read; a refusal stands at the first mark with which no
+/// module goes on, or with which an expression begins that stands too deep; and no other answer would be right.
 pub fn reading_is_exact()
     ensures { (ts : List Mark) → Exact ts }
 {}

@@ -20,24 +20,34 @@ use Rattle.ocl_parse.specs.Signs.{is_iterator, is_iterate}
 use Rattle.ocl_parse.specs.Symbols.{Lexeme}
 use Rattle.ocl_parse.specs.Depth.{deep, is_shallow}
 use Rattle.ocl_parse.specs.Trees.{name, level, binary, unary, variable, feature, within}
-use Rattle.ocl_parse.specs.Machine.{Step, Goes, Stops, Refuses, TooDeep, before, closed, at, have, word, kind_closed, kind_given, at_let, operand, argued, unargued, first, argument, step, last, Read, Deep, after, ended, run}
-use Rattle.ocl_parse.proofs.Accepts.{firsts_deep}
+use Rattle.ocl_parse.specs.Machine.{Step, Goes, Stops, Refuses, TooDeep, before, closed, at, have, word, kind_closed, kind_given, at_let, operand, argued, unargued, first, argument, step, last, End, Read, Expected, Deep, after, ended, run}
 use Rattle.ocl_parse.proofs.Ordered.{InOrder, StepInOrder, step_ordered}
 use Rattle.ocl_parse.proofs.Completes.{put, closing, first_ends, completes}
 use Rattle.ocl_parse.proofs.Halts.{IsExpected, IsDeep, over_shallow, Ends, HaltsAt, place_at, too_deep}
 
--- symbols that end what is open, and with the depth break at the place
-pub record Deeper (gs : List Frame) (n : Next) (p : Place) : Type 0 where
+-- the name before which reading stops begins an argument too deep
+abbrev pub IsStuck : List Frame → Next → Type 0
+IsStuck gs (N.First c x) = is_shallow true (suc (deep gs)) ≡ false
+IsStuck gs n = ⊥
+
+-- both begin with the same symbol
+abbrev pub Meets : List Lexeme → List Lexeme → Type 0
+Meets (t ∷ rest) (u ∷ more) = t ≡ u
+Meets rest more = ⊥
+
+-- symbols that end what is open, and with the depth break at the place, as the rest does
+pub record Deeper (gs : List Frame) (n : Next) (rest : List Lexeme) (p : Place) : Type 0 where
   pub more : List Lexeme
   pub tree : Expr
   pub loose : run false gs n more ≡ Read tree []
-  pub strict : run true gs n more ≡ Deep p
+  pub meets : (IsStuck gs n → ⊥) → Meets rest more
+  pub here : HaltsAt gs n more (Deep p)
 
-abbrev IsTooDeep : Step → Type 0
+abbrev pub IsTooDeep : Step → Type 0
 IsTooDeep (TooDeep p) = Unit {0}
 IsTooDeep u = ⊥
 
-abbrev GoesOn : Step → Type 0
+abbrev pub GoesOn : Step → Type 0
 GoesOn (Goes gs m) = Unit {0}
 GoesOn u = ⊥
 
@@ -132,11 +142,11 @@ given_never (F.LetKind q n ∷ fs) k h = h
 given_never (F.OutcomeKind c x y ∷ fs) k h = h
 given_never fs k h = h
 
-abbrev IsFirst : Next → Type 0
+abbrev pub IsFirst : Next → Type 0
 IsFirst (N.First c n) = Unit {0}
 IsFirst m = ⊥
 
-goes : (fs : List Frame) (m : Next) (s : Symbol) (p : Place) → (IsFirst m → ⊥) → IsTooDeep (step true fs m s p) → GoesOn (step false fs m s p)
+pub goes : (fs : List Frame) (m : Next) (s : Symbol) (p : Place) → (IsFirst m → ⊥) → IsTooDeep (step true fs m s p) → GoesOn (step false fs m s p)
 goes fs N.Operand s p f h = operand_goes fs s p h
 goes fs (N.Argument c) s p f h = argument_goes fs c s p h
 goes fs (N.First c n) s p f h = absurd (f tt)
@@ -188,7 +198,7 @@ is_deep Refuses rest p e h = absurd (subst IsExpected h tt)
 is_deep (TooDeep q) rest p e h = tt
 
 -- the name before which reading stops begins an argument too deep
-abbrev At : List Frame → Name → Place → Type 0
+abbrev pub At : List Frame → Name → Place → Type 0
 At gs x p = (is_shallow true (suc (deep gs)) ≡ false) × (x.place ≡ p)
 
 unargued_at : (gs : List Frame) (c : Callee) (x : Name) (rest : List Lexeme) (p : Place) → after (unargued true gs c x) rest ended ≡ Deep p → At gs x p
@@ -212,7 +222,7 @@ argued_at gs c x s q rest p e h = on (is_shallow true (suc (deep gs))) e h
     on true e h = absurd (word_never (F.Arguments c [] ∷ gs) x s q (is_deep (word (F.Arguments c [] ∷ gs) x s q) rest p e h))
     on false e h = (refl, ap (place_at x.place) h)
 
-first_at : (gs : List Frame) (c : Callee) (x : Name) (s : Symbol) (q : Place) (rest : List Lexeme) (p : Place) → Ends (first true gs c x s q) → after (first true gs c x s q) rest ended ≡ Deep p → At gs x p
+pub first_at : (gs : List Frame) (c : Callee) (x : Name) (s : Symbol) (q : Place) (rest : List Lexeme) (p : Place) → Ends (first true gs c x s q) → after (first true gs c x s q) rest ended ≡ Deep p → At gs x p
 first_at gs c x (T.Fixed (S.End E.Bar)) q rest p e h = bar_at (is_iterator c.name.text) gs c x (Goes (F.Body c x ∷ gs) N.Operand) rest p tt e h
 first_at gs c x (T.Fixed S.Semicolon) q rest p e h = bar_at (is_iterate c.name.text) gs c x (Goes gs (N.OutcomeName c x)) rest p tt e h
 first_at gs c x s q rest p e h = argued_at gs c x s q rest p e h
@@ -221,10 +231,18 @@ halted_at : (gs : List Frame) (c : Callee) (x : Name) (rest : List Lexeme) (p : 
 halted_at gs c x [] p k = unargued_at gs c x [] p k
 halted_at gs c x (t ∷ r) p k = first_at gs c x t.symbol t.place (t ∷ r) p k.0 k.1
 
-first_deeper : (gs : List Frame) (c : Callee) (x : Name) (p : Place) → InOrder gs (N.First c x) → At gs x p → Deeper gs (N.First c x) p
-first_deeper gs c x p o d =
+first_deeper : (gs : List Frame) (c : Callee) (x : Name) (rest : List Lexeme) (p : Place) → InOrder gs (N.First c x) → At gs x p → Deeper gs (N.First c x) rest p
+first_deeper gs c x rest p o d =
     let y = first_ends gs c x o in
-    record { more = put (S.End E.Close) ∷ closing gs; tree = y.0; loose = y.1; strict = firsts_deep true gs c x (put (S.End E.Close) ∷ closing gs) d.0 tt ∙ ap Deep d.1 }
+    let close = put (S.End E.Close) in
+    let breaks : argued true gs c x close.symbol close.place ≡ TooDeep x.place = rw d.0 refl in
+    record {
+      more = close ∷ closing gs;
+      tree = y.0;
+      loose = y.1;
+      meets = λ z. absurd (z d.0);
+      here = (subst Ends (sym breaks) tt, ap (λ v. after v (close ∷ closing gs) ended) breaks ∙ ap Deep d.1);
+    }
 
 -- at the end of a text no other state is too deep
 at_end : (gs : List Frame) (n : Next) (p : Place) → (IsFirst n → ⊥) → after (last true gs n) [] ended ≡ Deep p → ⊥
@@ -234,26 +252,75 @@ at_end gs (N.Named a n) p f k = over_shallow gs (feature a n) [] (subst IsDeep (
 at_end gs (N.First c n) p f k = f tt
 at_end gs n p f k = subst IsExpected k tt
 
-on_symbol : (gs : List Frame) (n : Next) (t : Lexeme) (r : List Lexeme) (p : Place) → InOrder gs n → (IsFirst n → ⊥) → HaltsAt gs n (t ∷ r) (Deep p) → Deeper gs n p
+on_symbol : (gs : List Frame) (n : Next) (t : Lexeme) (r : List Lexeme) (p : Place) → InOrder gs n → (IsFirst n → ⊥) → HaltsAt gs n (t ∷ r) (Deep p) → Deeper gs n (t ∷ r) p
 on_symbol gs n t r p o f k = on (step false gs n t.symbol t.place) refl (goes gs n t.symbol t.place f (is_deep (step true gs n t.symbol t.place) (t ∷ r) p k.0 k.1))
   where
-    on : (u : Step) → step false gs n t.symbol t.place ≡ u → GoesOn u → Deeper gs n p
+    on : (u : Step) → step false gs n t.symbol t.place ≡ u → GoesOn u → Deeper gs n (t ∷ r) p
     on (Goes hs m) h g =
         let c = completes hs m (subst StepInOrder h (step_ordered false gs n t.symbol t.place o)) in
         record {
           more = t ∷ c.more;
           tree = c.ends.0;
           loose = ap (λ v. after v (t ∷ c.more) (λ ks l. run false ks l c.more)) h ∙ c.ends.1;
-          strict = too_deep (step true gs n t.symbol t.place) (t ∷ r) (t ∷ c.more) (λ ks l. run true ks l c.more) p k.0 k.1;
+          meets = λ z. refl;
+          here = (k.0, too_deep (step true gs n t.symbol t.place) (t ∷ r) (t ∷ c.more) ended p k.0 k.1);
         }
     on (Stops hs a) h g = absurd g
     on Refuses h g = absurd g
     on (TooDeep q) h g = absurd g
 
-elsewhere : (gs : List Frame) (n : Next) (rest : List Lexeme) (p : Place) → InOrder gs n → (IsFirst n → ⊥) → HaltsAt gs n rest (Deep p) → Deeper gs n p
+elsewhere : (gs : List Frame) (n : Next) (rest : List Lexeme) (p : Place) → InOrder gs n → (IsFirst n → ⊥) → HaltsAt gs n rest (Deep p) → Deeper gs n rest p
 elsewhere gs n [] p o f k = absurd (at_end gs n p f k)
 elsewhere gs n (t ∷ r) p o f k = on_symbol gs n t r p o f k
 
-pub deeper : (gs : List Frame) (n : Next) (rest : List Lexeme) (p : Place) → InOrder gs n → HaltsAt gs n rest (Deep p) → Deeper gs n p
-deeper gs (N.First c x) rest p o k = first_deeper gs c x p o (halted_at gs c x rest p k)
+pub deeper : (gs : List Frame) (n : Next) (rest : List Lexeme) (p : Place) → InOrder gs n → HaltsAt gs n rest (Deep p) → Deeper gs n rest p
+deeper gs (N.First c x) rest p o k = first_deeper gs c x rest p o (halted_at gs c x rest p k)
 deeper gs n rest p o k = elsewhere gs n rest p o (λ z. z) k
+
+-- where the end of a text is too deep
+pub stuck : (gs : List Frame) (n : Next) (p : Place) → after (last true gs n) [] ended ≡ Deep p → IsStuck gs n
+stuck gs (N.First c x) p k = (unargued_at gs c x [] p k).0
+stuck gs n p k = absurd (at_end gs n p (λ z. z) k)
+
+-- from there, reading goes on with a variable alone
+abbrev pub OnlyDeep : Step → Type 0
+OnlyDeep (Goes hs k) = IsStuck hs k → ⊥
+OnlyDeep (TooDeep p) = Unit {0}
+OnlyDeep u = ⊥
+
+unargued_only : (gs : List Frame) (c : Callee) (x : Name) → is_shallow true (suc (deep gs)) ≡ false → OnlyDeep (unargued true gs c x)
+unargued_only gs c x d = subst (λ t. OnlyDeep (if t then Refuses else TooDeep x.place)) (sym d) tt
+
+argued_only : (gs : List Frame) (c : Callee) (x : Name) (s : Symbol) (q : Place) → is_shallow true (suc (deep gs)) ≡ false → OnlyDeep (argued true gs c x s q)
+argued_only gs c x s q d = subst (λ t. OnlyDeep (if t then word (F.Arguments c [] ∷ gs) x s q else TooDeep x.place)) (sym d) tt
+
+bar_only : (t : Bool) (u v : Step) → OnlyDeep u → OnlyDeep v → OnlyDeep (if t then u else v)
+bar_only true u v h k = h
+bar_only false u v h k = k
+
+first_only : (gs : List Frame) (c : Callee) (x : Name) (s : Symbol) (q : Place) → is_shallow true (suc (deep gs)) ≡ false → OnlyDeep (first true gs c x s q)
+first_only gs c x (T.Fixed (S.End E.Bar)) q d = bar_only (is_iterator c.name.text) (Goes (F.Body c x ∷ gs) N.Operand) (unargued true gs c x) (λ z. z) (unargued_only gs c x d)
+first_only gs c x (T.Fixed S.Semicolon) q d = bar_only (is_iterate c.name.text) (Goes gs (N.OutcomeName c x)) (unargued true gs c x) (λ z. z) (unargued_only gs c x d)
+first_only gs c x s q d = argued_only gs c x s q d
+
+pub stuck_only : (gs : List Frame) (n : Next) (s : Symbol) (q : Place) → IsStuck gs n → OnlyDeep (step true gs n s q)
+stuck_only gs (N.First c x) s q d = first_only gs c x s q d
+stuck_only gs n s q d = absurd d
+
+-- it refuses nothing
+only_deep : (u : Step) (rest r : List Lexeme) → Ends u → OnlyDeep u → after u rest ended ≡ Expected r → ⊥
+only_deep (Goes hs k) rest r e o h = e
+only_deep (Stops hs a) rest r e o h = o
+only_deep Refuses rest r e o h = o
+only_deep (TooDeep p) rest r e o h = subst IsDeep h tt
+
+pub stuck_last : (gs : List Frame) (n : Next) → IsStuck gs n → (p : Place) × (after (last true gs n) [] ended ≡ Deep p)
+stuck_last gs (N.First c x) d = (x.place, subst (λ t. after (if t then Refuses else TooDeep x.place) [] ended ≡ Deep x.place) (sym d) refl)
+stuck_last gs n d = absurd d
+
+expected_not : (x : End) (r : List Lexeme) (p : Place) → x ≡ Expected r → x ≡ Deep p → ⊥
+expected_not x r p h k = subst IsDeep (sym k ∙ h) tt
+
+pub stuck_halts : (gs : List Frame) (n : Next) (rest r : List Lexeme) → IsStuck gs n → HaltsAt gs n rest (Expected r) → ⊥
+stuck_halts gs n [] r d k = let x = stuck_last gs n d in expected_not (after (last true gs n) [] ended) r x.0 k x.1
+stuck_halts gs n (t ∷ rest) r d k = only_deep (step true gs n t.symbol t.place) (t ∷ rest) r k.0 (stuck_only gs n t.symbol t.place d) k.1

@@ -58,6 +58,11 @@ abbrev pub HaltsAt : List Frame → Next → List Lexeme → End → Type 0
 HaltsAt gs n [] end = after (last true gs n) [] ended ≡ end
 HaltsAt gs n (t ∷ r) end = Ends (step true gs n t.symbol t.place) × (after (step true gs n t.symbol t.place) (t ∷ r) ended ≡ end)
 
+-- reading the symbols leads from one state to the other
+abbrev pub Along : List Frame → Next → List Lexeme → List Frame → Next → Type 0
+Along fs m [] gs n = (fs ≡ gs) × (m ≡ n)
+Along fs m (t ∷ ts) gs n = (hs : List Frame) × (k : Next) × (step true fs m t.symbol t.place ≡ Goes hs k) × Along hs k ts gs n
+
 pub record Halt (fs : List Frame) (m : Next) (ts : List Lexeme) (end : End) : Type 0 where
   pub front : List Lexeme
   pub rest : List Lexeme
@@ -66,10 +71,11 @@ pub record Halt (fs : List Frame) (m : Next) (ts : List Lexeme) (end : End) : Ty
   pub n : Next
   pub ordered : InOrder gs n
   pub leads : (b : Bool) (more : List Lexeme) → run b fs m (front ++ more) ≡ run b gs n more
+  pub along : Along fs m front gs n
   pub here : HaltsAt gs n rest end
 
 pub halts : (ts : List Lexeme) (fs : List Frame) (m : Next) → InOrder fs m → Halt fs m ts (run true fs m ts)
-halts [] fs m o = record { front = []; rest = []; whole = refl; gs = fs; n = m; ordered = o; leads = λ b more. refl; here = refl }
+halts [] fs m o = record { front = []; rest = []; whole = refl; gs = fs; n = m; ordered = o; leads = λ b more. refl; along = (refl, refl); here = refl }
 halts (t ∷ ts) fs m o = on (λ gs n. halts ts gs n) (step true fs m t.symbol t.place) refl
   where
     at_once : (u : Step) → step true fs m t.symbol t.place ≡ u → Ends u → after u (t ∷ ts) ended ≡ after u (t ∷ ts) (λ gs n. run true gs n ts) → Halt fs m (t ∷ ts) (after u (t ∷ ts) (λ gs n. run true gs n ts))
@@ -81,6 +87,7 @@ halts (t ∷ ts) fs m o = on (λ gs n. halts ts gs n) (step true fs m t.symbol t
       n = m;
       ordered = o;
       leads = λ b more. refl;
+      along = (refl, refl);
       here = (subst Ends (sym h) e, ap (λ v. after v (t ∷ ts) ended) h ∙ k);
     }
 
@@ -99,6 +106,7 @@ halts (t ∷ ts) fs m o = on (λ gs n. halts ts gs n) (step true fs m t.symbol t
           n = x.n;
           ordered = x.ordered;
           leads = λ b more. ap (λ v. after v (t ∷ (x.front ++ more)) (λ hs k. run b hs k (x.front ++ more))) (both gs n h b) ∙ x.leads b more;
+          along = (gs, n, h, x.along);
           here = x.here;
         }
     on again (Stops gs e) h = at_once (Stops gs e) h tt refl

@@ -5,10 +5,12 @@ pub mod Completes
 pub mod Deep
 pub mod Deeper
 pub mod Fine
+pub mod Found
 pub mod Halts
 pub mod Led
 pub mod Lengths
 pub mod Main
+pub mod Only
 pub mod Ordered
 pub mod Over
 pub mod Resolving

@@ -1,10 +1,9 @@
 -- What is said of reading: it gives the longest expression that a text begins with, and each refusal is the right one.
-use Rattle.std.specs.Prelude.{◌≡◌, List, [], ◌∷◌, ◌++◌, Bool, true, false, Some}
-use Rattle.atl_base.specs.declared.place.Place.{Place}
+use Rattle.std.specs.Prelude.{◌≡◌, ◌≤◌, ℕ, length, List, [], ◌∷◌, ◌++◌, Bool, true, false, Some}
 use Rattle.atl_tree.specs.declared.expr.Expr.{Expr}
 use Rattle.ocl_parse.specs.Symbols.{Lexeme}
 use Rattle.ocl_parse.specs.Grammar.{Written, Fits, spelt, IsExpr}
-use Rattle.ocl_parse.specs.TooDeep.{first_deep}
+use Rattle.ocl_parse.specs.TooDeep.{deep_after}
 use Rattle.ocl_parse.specs.Machine.{End, Read, Expected, Deep, read}
 
 -- some expression of the grammar, whatever its depth, begins so
@@ -20,21 +19,41 @@ StopsAt b front (t ∷ rest) = (more : List Lexeme) (e : Expr) → IsExpr b (fro
 abbrev pub NoneEnds : Bool → List Lexeme → Type 0
 NoneEnds b front = (e : Expr) → IsExpr b front e → ⊥
 
--- in each expression of the grammar that agrees up to and with the first of the rest, the first that stands too deep begins
--- at the place
-abbrev pub FailsAt : Place → List Lexeme → List Lexeme → Type 0
-FailsAt p front [] = Unit {0}
-FailsAt p front (t ∷ rest) = (more : List Lexeme) (w : Written) → Fits false 0 0 w → spelt w ≡ front ++ (t ∷ more) → first_deep 0 w ≡ Some p
+-- in no expression of the grammar that begins so does one begin there that stands too deep
+abbrev pub IsShallow : List Lexeme → Type 0
+IsShallow front = (more : List Lexeme) (w : Written) (k : ℕ) → Fits false 0 0 w → spelt w ≡ front ++ more → deep_after 0 w ≡ Some k → length front ≤ k
 
--- some expression of the grammar, whatever its depth, begins so, and the first of it that stands too deep begins at the place
-abbrev pub HasDeep : Place → List Lexeme → Type 0
-HasDeep p front = (more : List Lexeme) × (w : Written) × Fits false 0 0 w × (spelt w ≡ front ++ more) × (first_deep 0 w ≡ Some p)
+-- these symbols end, or begin with the first of the rest
+abbrev pub Matches : List Lexeme → List Lexeme → Type 0
+Matches [] rest = Unit {0}
+Matches (t ∷ more) [] = ⊥
+Matches (t ∷ more) (u ∷ rest) = t ≡ u
+
+-- the first expression that stands too deep begins behind the front
+abbrev pub IsDeepBehind : List Lexeme → Written → Type 0
+IsDeepBehind front w = deep_after 0 w ≡ Some (length front)
+
+-- in some expression of the grammar, whatever its depth, that begins so the first that stands too deep begins with the symbol
+abbrev pub HasDeep : List Lexeme → Lexeme → Type 0
+HasDeep front t = (more : List Lexeme) × (w : Written) × Fits false 0 0 w × (spelt w ≡ front ++ (t ∷ more)) × IsDeepBehind front w
+
+-- and so it is in each that begins so and, where it goes on, does so with the first of the rest
+abbrev pub AllDeep : List Lexeme → Lexeme → List Lexeme → Type 0
+AllDeep front t rest = (more : List Lexeme) (w : Written) → Fits false 0 0 w → spelt w ≡ front ++ (t ∷ more) → Matches more rest → IsDeepBehind front w
+
+-- within the depth there is none
+abbrev pub NoneShallow : List Lexeme → Lexeme → List Lexeme → Type 0
+NoneShallow front t rest = (more : List Lexeme) (e : Expr) → Matches more rest → IsExpr true (front ++ (t ∷ more)) e → ⊥
 
 abbrev pub Tells : List Lexeme → End → Type 0
 Tells ts (Read e rest) = (front : List Lexeme) × (ts ≡ front ++ rest) × IsExpr true front e × StopsAt false front rest
-Tells ts (Expected rest) = (front : List Lexeme) × (ts ≡ front ++ rest) × GoesOn front × StopsAt false front rest × NoneEnds false front
-Tells ts (Deep p) = (front : List Lexeme) × (rest : List Lexeme) × (ts ≡ front ++ rest) × HasDeep p front × StopsAt true front rest × NoneEnds true front × FailsAt p front rest
+Tells ts (Expected rest) = (front : List Lexeme) × (ts ≡ front ++ rest) × GoesOn front × StopsAt false front rest × NoneEnds false front × IsShallow front
+Tells ts (Deep p) =
+    (front : List Lexeme) × (t : Lexeme) × (rest : List Lexeme) × (ts ≡ front ++ (t ∷ rest)) × (t.place ≡ p) × HasDeep front t × AllDeep front t rest
+    × NoneShallow front t rest × NoneEnds true front
 
 pub record Exact (ts : List Lexeme) : Type 0 where
   pub tells : Tells ts (read true ts)
+  -- and of no other answer is it told
+  pub only : (end : End) → Tells ts end → read true ts ≡ end
   pub reads : (front rest : List Lexeme) (e : Expr) → ts ≡ front ++ rest → IsExpr true front e → StopsAt false front rest → read true ts ≡ Read e rest
