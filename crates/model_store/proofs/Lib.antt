@@ -1,10 +1,12 @@
 mod Chains
 mod Climbing
+mod Cuts
 mod Digits
 mod Holders
 mod Keeping
 mod Numbers
 mod PathRows
+mod Readings
 mod Places
 mod Rising
 mod Trees

@@ -4,6 +4,7 @@
 mod adding;
 mod attributes;
 mod copies;
+mod fragments;
 pub mod laws;
 mod lookups;
 pub mod model;

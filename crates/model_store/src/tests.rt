@@ -265,6 +265,41 @@ fn paths_lead_from_a_root(rt: HostRuntime) -> Result<(), Fail> {
 }
 
 #[test]
+fn fragments_name_objects(rt: HostRuntime) -> Result<(), Fail> {
+    let alloc = rt.alloc();
+    let mut model = empty(alloc)?;
+    let a = make(&mut model, 0)?;
+    let b = make(&mut model, 1)?;
+    let c = make(&mut model, 0)?;
+    assert_eq!(rt; model.at_path("/2"), Some(c));
+    assert_eq!(rt; model.at_path("/02"), Some(c));
+    for fragment in ["", "/", "2", "/3", "/-1", "/2/"] {
+        assert_eq!(rt; model.at_path(fragment), None, "{fragment}");
+    }
+    model.write(a, KIDS, &objects(alloc, &[c, b])?)?;
+    model.write(b, HEART, &objects(alloc, &[c])?)?;
+    assert_eq!(rt; model.at_path("/"), Some(a));
+    assert_eq!(rt; model.at_path("/0"), Some(a));
+    assert_eq!(rt; model.at_path("//@kids.0"), Some(b));
+    assert_eq!(rt; model.at_path("//@kids.00/@heart"), Some(c));
+    for fragment in [
+        "//",
+        "//@kids",
+        "//@kids.",
+        "//@kids.1",
+        "//@kids.0.0",
+        "//@kids.18446744073709551616",
+        "//@kids.0/@heart.0",
+        "//@kids.0/@up",
+        "//kids.0",
+        "//@heart",
+    ] {
+        assert_eq!(rt; model.at_path(fragment), None, "{fragment}");
+    }
+    Ok(())
+}
+
+#[test]
 fn objects_are_numbered(rt: HostRuntime) -> Result<(), Fail> {
     let alloc = rt.alloc();
     let mut model = empty(alloc)?;
