@@ -1,11 +1,17 @@
 mod Chains
 mod Climbing
+mod Counted
 mod Cuts
 mod Digits
 mod Holders
 mod Keeping
+mod NamedObjects
 mod Numbers
+mod PathDigits
+mod PathRoots
 mod PathRows
+mod PathSteps
+mod PathsBack
 mod Readings
 mod Places
 mod Rising
