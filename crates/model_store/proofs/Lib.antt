@@ -3,6 +3,7 @@ mod Climbing
 mod Counted
 mod Cuts
 mod Digits
+mod Folded
 mod Holders
 mod Keeping
 mod NamedObjects

@@ -1,4 +1,5 @@
 pub mod Contents
+pub mod Folds
 pub mod Laws
 pub mod Order
 pub mod Paths

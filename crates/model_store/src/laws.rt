@@ -5,6 +5,7 @@ ghost use Rattle.atl_base.specs.declared.numbers.FeatId.{FeatId};
 ghost use Rattle.atl_base.specs.declared.numbers.ObjId.{ObjId};
 ghost use Rattle.ecore_meta.specs.Valid.{IsMetamodel};
 ghost use Rattle.model_store.specs.Contents.{Contents, object_at};
+ghost use Rattle.model_store.specs.Folds.{IsFoldLaw};
 ghost use Rattle.model_store.specs.Laws.{IsWriteLaw};
 ghost use Rattle.model_store.specs.Order.{HasNoCycle};
 ghost use Rattle.model_store.specs.Paths.{path, object_of_path};
@@ -26,6 +27,12 @@ pub fn a_write_leaves_a_model()
 /// A write leaves alone the metamodel, how many numbers have been given, and which objects there are, each with its class.
 pub fn write_law()
     ensures { IsWriteLaw }
+{}
+
+/// A fold of writes that may be made begins with the created objects as roots, in order of creation, and ends with a model of
+/// these objects. A containment cycle may arise.
+pub fn fold_law()
+    ensures { IsFoldLaw }
 {}
 
 /// In a model without a containment cycle the fragment of an object names it. Each model has fewer objects than numbers of 32
