@@ -6,6 +6,7 @@ mod Digits
 mod Folded
 mod Holders
 mod Keeping
+mod Kept
 mod NamedObjects
 mod Numbers
 mod PathDigits

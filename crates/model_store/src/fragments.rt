@@ -8,8 +8,8 @@ ghost use Rattle.ecore_meta.specs.Valid.{number_of};
 ghost use Rattle.model_store.specs.Paths.{are_digits, parts_of, root_named, is_content, content_feature, content_at, many_content, single_content, content_in_class, content_named, descend, object_of_path};
 
 use crate::lookups::{contains, first_object, is_many};
-use crate::model::Model;
 use crate::parts::Cellv;
+use crate::store::Store;
 use atl_base::numbers::{ClassId, FeatId, ObjId};
 use ecore_meta::metamodel::Metamodel;
 
@@ -89,7 +89,7 @@ fn content_at(cells: &[Cellv], digits: &str) -> Option<ObjId>
 }
 
 // What an object contains at a place of a many-valued feature.
-fn many_content(model: &Model, o: ObjId, digits: &str, f: FeatId) -> Option<ObjId>
+fn many_content(model: &Store, o: ObjId, digits: &str, f: FeatId) -> Option<ObjId>
     ensures { result ≡ many_content model.now o digits.now f }
 {
     if is_many(model.meta(), f) {
@@ -100,7 +100,7 @@ fn many_content(model: &Model, o: ObjId, digits: &str, f: FeatId) -> Option<ObjI
 }
 
 // What an object contains by a single-valued feature.
-fn single_content(model: &Model, o: ObjId, f: FeatId) -> Option<ObjId>
+fn single_content(model: &Store, o: ObjId, f: FeatId) -> Option<ObjId>
     ensures { result ≡ single_content model.now o f }
 {
     if is_many(model.meta(), f) {
@@ -111,7 +111,7 @@ fn single_content(model: &Model, o: ObjId, f: FeatId) -> Option<ObjId>
 }
 
 // What an object contains by `f.i` or `f`.
-fn content_in_class(model: &Model, o: ObjId, text: &str, class: ClassId) -> Option<ObjId>
+fn content_in_class(model: &Store, o: ObjId, text: &str, class: ClassId) -> Option<ObjId>
     requires { class.0 < length model.now.meta.classes }
     ensures { result ≡ content_in_class model.now o text.now class }
 {
@@ -129,7 +129,7 @@ fn content_in_class(model: &Model, o: ObjId, text: &str, class: ClassId) -> Opti
 }
 
 // What an object contains by a step.
-fn content_named(model: &Model, o: ObjId, part: &str) -> Option<ObjId>
+fn content_named(model: &Store, o: ObjId, part: &str) -> Option<ObjId>
     ensures { result ≡ content_named model.now o part.now }
 {
     let text = part.strip_prefix('@')?;
@@ -137,7 +137,7 @@ fn content_named(model: &Model, o: ObjId, part: &str) -> Option<ObjId>
 }
 
 // What stands below an object after all steps.
-fn descend(model: &Model, top: ObjId, steps: &str) -> Option<ObjId>
+fn descend(model: &Store, top: ObjId, steps: &str) -> Option<ObjId>
     ensures { result ≡ descend model.now (Some top) (parts_of steps.now) }
 {
     let mut o = top;
@@ -149,9 +149,9 @@ fn descend(model: &Model, top: ObjId, steps: &str) -> Option<ObjId>
     content_named(model, o, rest)
 }
 
-impl Model {
-    /// The object of a fragment, and none where it names none.
-    pub fn at_path(&self, path: &str) -> Option<ObjId>
+impl Store {
+    // The object of a fragment, and none where it names none.
+    pub(crate) fn at_path(&self, path: &str) -> Option<ObjId>
         ensures { result ≡ object_of_path self.now path.now }
     {
         let below = path.strip_prefix('/')?;

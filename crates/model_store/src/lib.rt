@@ -14,6 +14,7 @@ pub mod parts;
 mod path;
 pub mod refusal;
 mod roots;
+mod store;
 #[cfg(test)]
 mod tests;
 mod types;

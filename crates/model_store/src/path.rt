@@ -8,9 +8,9 @@ ghost use Rattle.model_store.specs.Order.{HasNoCycle};
 ghost use Rattle.model_store.specs.Paths.{step_text, root_text, steps_within, top_within, path, GivesPath};
 
 use crate::lookups::is_many;
-use crate::model::Model;
 use crate::parts::Cellv;
 use crate::refusal::StoreRefusal;
+use crate::store::Store;
 use atl_base::numbers::{FeatId, ObjId};
 use atl_base::text::Text;
 use ecore_meta::metamodel::Metamodel;
@@ -78,7 +78,7 @@ fn push_name(text: &mut Text, meta: &Metamodel, f: FeatId) -> Result<(), AllocEr
 }
 
 // Adds the place of an object in a slot of several.
-fn push_place(text: &mut Text, model: &Model, step: Step) -> Result<(), AllocError>
+fn push_place(text: &mut Text, model: &Store, step: Step) -> Result<(), AllocError>
     ensures { OnOk result (text.new ≡ text.old ++ (if is_many model.now.meta step.feature
         then 46 ∷ decimal (position_or_len (refers_to step.to) (slot model.now step.from step.feature)) else [])) }
 {
@@ -93,7 +93,7 @@ fn push_place(text: &mut Text, model: &Model, step: Step) -> Result<(), AllocErr
 }
 
 // Adds a step.
-fn push_step(text: &mut Text, model: &Model, step: Step) -> Result<(), AllocError>
+fn push_step(text: &mut Text, model: &Store, step: Step) -> Result<(), AllocError>
     ensures { OnOk result (text.new ≡ text.old ++ step_text model.now step) }
 {
     text.push_ascii("/@")?;
@@ -102,7 +102,7 @@ fn push_step(text: &mut Text, model: &Model, step: Step) -> Result<(), AllocErro
 }
 
 // Adds steps, the last first.
-fn push_steps(text: &mut Text, model: &Model, mut steps: Vec<Step>) -> Result<(), AllocError>
+fn push_steps(text: &mut Text, model: &Store, mut steps: Vec<Step>) -> Result<(), AllocError>
     ensures { OnOk result (text.new ≡ text.old ++ flat_map (step_text model.now) (reverse steps.items)) }
 {
     while let Some(step) = steps.pop() {
@@ -112,7 +112,7 @@ fn push_steps(text: &mut Text, model: &Model, mut steps: Vec<Step>) -> Result<()
 }
 
 // Adds a root.
-fn push_root(text: &mut Text, model: &Model, o: ObjId) -> Result<(), AllocError>
+fn push_root(text: &mut Text, model: &Store, o: ObjId) -> Result<(), AllocError>
     ensures { OnOk result (text.new ≡ text.old ++ root_text model.now o) }
 {
     text.push_ascii("/")?;
@@ -130,7 +130,7 @@ struct Climb {
 }
 
 #[tactic(auto, unfolding(crate::specs::Paths::top_within, crate::specs::Paths::steps_within))]
-fn climbed(model: &Model, o: ObjId) -> Result<Climb, AllocError>
+fn climbed(model: &Store, o: ObjId) -> Result<Climb, AllocError>
     ensures top { IfOk result (λ climb. climb.top ≡ top_within (suc (length model.now.objects)) model.now o) }
     ensures steps { IfOk result (λ climb. reverse climb.steps.items ≡ steps_within (suc (length model.now.objects)) model.now o) }
 {
@@ -151,10 +151,10 @@ fn climbed(model: &Model, o: ObjId) -> Result<Climb, AllocError>
     Ok(Climb { top, steps })
 }
 
-impl Model {
-    /// The fragment of an object: `/`, or `/k` for root k from 0 where there are several, and then `/@f.i` or `/@f` for each
-    /// step to a content, i from 0.
-    pub fn path_of(&self, o: ObjId) -> Result<Text, StoreRefusal>
+impl Store {
+    // The fragment of an object: `/`, or `/k` for root k from 0 where there are several, and then `/@f.i` or `/@f` for each
+    // step to a content, i from 0.
+    pub(crate) fn path_of(&self, o: ObjId) -> Result<Text, StoreRefusal>
         requires { HasNoCycle self.now }
         ensures { GivesPath self.now o result }
     {

@@ -216,7 +216,7 @@ fn rises(model: &Model) -> Result<bool, AllocError>
     ensures { IfOk result (λ answer. IsTrue answer → HasNoCycle model.now) }
 {
     for n in 0..model.given() {
-        for q in &contents(model, ObjId(n))? {
+        for q in &contents(model.store(), ObjId(n))? {
             if q.0 <= n {
                 return Ok(false);
             }

@@ -2,7 +2,7 @@ use Rattle.std.proofs.Common.{◌≡◌, ◌∷◌, sym, ap, ◌∙◌, lit<, So
 use Rattle.std.proofs.lemmas.Str.Pattern.{strip_prefix_char}
 use Rattle.model_store.specs.Paths.{root_named, descend, parts_of}
 use Rattle.model_store.proofs.Cuts.{no_slash, root_alone, root_and_steps}
-use Rattle.model_store.proofs.model.Model.at_path.Goals as goal
+use Rattle.model_store.proofs.store.Store.at_path.Goals as goal
 
 pub returns-in_err-below : goal.returns-in_err-below
 returns-in_err-below c = c.from_residual.ensures ∙ sym (no_slash c.args.self.now c.args.path.now (strip_prefix_char 47 c.args.path.now None c.in_err-below.ensures.cases (lit< tt)))

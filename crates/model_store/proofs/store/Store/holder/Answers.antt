@@ -1,7 +1,7 @@
 use Rattle.std.proofs.Common.{◌<◌, length, sym, ap, subst, ◌∙◌, rules}
 use Rattle.model_store.specs.Contents.{IsShaped, holding_place}
 use Rattle.model_store.proofs.Holders.{holder_more, shaped_at}
-use Rattle.model_store.proofs.model.Model.holder.Goals as goal
+use Rattle.model_store.proofs.store.Store.holder.Goals as goal
 
 pub holding_place-requires : goal.holding_place-requires
 holding_place-requires c = λ object is.
