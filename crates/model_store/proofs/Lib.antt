@@ -9,6 +9,7 @@ mod Keeping
 mod Kept
 mod NamedObjects
 mod Numbers
+mod Noting
 mod PathDigits
 mod PathRoots
 mod PathRows
@@ -17,6 +18,7 @@ mod PathsBack
 mod Readings
 mod Places
 mod Rising
+mod SameHolders
 mod Trees
 mod Updates
 pub mod Slots

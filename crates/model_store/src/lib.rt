@@ -3,6 +3,7 @@
 
 mod adding;
 mod attributes;
+mod containing;
 mod copies;
 mod fragments;
 pub mod laws;

@@ -1,18 +1,18 @@
 // Models: the type whose values are always models, and its calls.
 ghost use Rattle.std.specs.Prelude.{◌≡◌, ◌≤◌, ◌<◌, ◌^◌, IfOk, IfSome, MatchResult, [], length, Some, None, map};
 ghost use Rattle.ecore_meta.specs.Valid.{IsMetamodel};
-ghost use Rattle.model_store.specs.Contents.{class_of, container, refusal, slot};
+ghost use Rattle.model_store.specs.Contents.{class_of, container, holder, refusal, slot};
 ghost use Rattle.model_store.specs.Folds.{empty};
 ghost use Rattle.model_store.specs.Order.{preorder, HasNoCycle, IsExtent};
-ghost use Rattle.model_store.specs.Paths.{object_of_path, GivesPath};
+ghost use Rattle.model_store.specs.Paths.{object_of_path};
 ghost use Rattle.model_store.specs.Valid.{IsConcrete, IsModel};
 ghost use Rattle.model_store.specs.Writes.{Creates, Writes};
 
+use crate::lookups::refers;
 use crate::parts::{Object, Slot};
 use crate::refusal::StoreRefusal;
 use crate::store::Store;
 use atl_base::numbers::{ClassId, FeatId, ObjId};
-use atl_base::text::Text;
 use ecore_meta::metamodel::Metamodel;
 use std::alloc::{AllocError, Global};
 use std::rc::Rc;
@@ -21,26 +21,31 @@ use std::rc::Rc;
 #[derive(Drop)]
 pub struct Model {
     store: Store,
+    // for each number the container of its object and the feature, where it has one
+    holders: Vec<Option<(ObjId, FeatId)>>,
 }
 
 impl std::marker::Model for Model {
     ghost use Rattle.model_store.specs.Contents.{Contents};
+    ghost use Rattle.model_store.specs.HolderTables.{AreHolders};
     ghost use Rattle.model_store.specs.Valid.{IsValid};
 
     ghost Value = { Contents };
 
     ghost view = { λ m. m.store };
 
-    ghost invariant = { λ m. IsValid m.store };
+    ghost invariant = { λ m. IsValid m.store × AreHolders m.store m.holders.items };
 }
 
 // The model that a store is.
-fn made(store: Store) -> Model
+fn made(alloc: Global, store: Store) -> Result<Model, AllocError>
     requires { IsModel store }
-    ensures { result ≡ store }
+    ensures { IfOk result (λ model. model ≡ store) }
 {
     let _ = store.meta().parts();
-    Model { store }
+    let mut holders = vec![in alloc; None; store.given() as usize]?;
+    store.note_holders(&mut holders);
+    Ok(Model { store, holders })
 }
 
 impl Model {
@@ -48,7 +53,7 @@ impl Model {
     pub fn new(alloc: Global, meta: Rc<Metamodel>) -> Result<Model, AllocError>
         ensures { IfOk result (λ model. model ≡ empty meta.value) }
     {
-        Ok(made(Store::new(alloc, meta)?))
+        made(alloc, Store::new(alloc, meta)?)
     }
 
     /// The model of these objects, numbered from 0 in their order, and of these roots. There may be containment cycles.
@@ -62,7 +67,7 @@ impl Model {
         requires model { IsModel (record { meta = meta.value; objects = map Some objects.items; roots = roots.items }) }
         ensures { IfOk result (λ model. model ≡ record { meta = meta.value; objects = map Some objects.items; roots = roots.items }) }
     {
-        Ok(made(Store::from_parts(alloc, meta, objects, roots)?))
+        made(alloc, Store::from_parts(alloc, meta, objects, roots)?)
     }
 
     /// Tells a caller what is true of each model: it is one, freedom from containment cycles aside, its metamodel is valid, and
@@ -81,7 +86,16 @@ impl Model {
         requires concrete { IsConcrete self.old.meta class }
         ensures { Creates self.old class result self.new }
     {
-        self.store.create(class)
+        if self.holders.push(None).is_err() {
+            return Err(StoreRefusal::Memory);
+        }
+        match self.store.create(class) {
+            Ok(o) => Ok(o),
+            Err(refused) => {
+                self.holders.pop();
+                Err(refused)
+            }
+        }
     }
 
     /// The metamodel.
@@ -121,11 +135,18 @@ impl Model {
         self.store.get(o, f)
     }
 
+    // Where an object is contained: the container and its feature.
+    pub(crate) fn holder(&self, p: ObjId) -> Option<(ObjId, FeatId)>
+        ensures { result ≡ holder self.now p }
+    {
+        *self.holders.get(p.0 as usize)?
+    }
+
     /// The object that contains another, and none for a root and where there is no such object.
     pub fn container(&self, p: ObjId) -> Option<ObjId>
         ensures { result ≡ container self.now p }
     {
-        self.store.container(p)
+        Some(self.holder(p)?.0)
     }
 
     /// Writes to a feature of an object: a single-valued one takes the only value, and is reset by none; a many-valued one
@@ -133,7 +154,11 @@ impl Model {
     pub fn write(&mut self, o: ObjId, f: FeatId, values: &Slot) -> Result<(), StoreRefusal>
         ensures { Writes self.old o f values.now result self.new }
     {
-        self.store.write(o, f, values)
+        self.store.write(o, f, values)?;
+        if refers(self.store.meta(), f) {
+            self.store.note_holders(&mut self.holders);
+        }
+        Ok(())
     }
 
     /// The same model again.
@@ -142,6 +167,7 @@ impl Model {
     {
         Ok(Model {
             store: self.store.copy()?,
+            holders: Vec::from_slice(self.store.alloc(), &self.holders)?,
         })
     }
 
@@ -160,15 +186,6 @@ impl Model {
         ensures { IfOk result (λ list. IsExtent self.now class list.items) }
     {
         self.store.extent(class)
-    }
-
-    /// The fragment of an object: `/`, or `/k` for root k from 0 where there are several, and then `/@f.i` or `/@f` for each
-    /// step to a content, i from 0.
-    pub fn path_of(&self, o: ObjId) -> Result<Text, StoreRefusal>
-        requires { HasNoCycle self.now }
-        ensures { GivesPath self.now o result }
-    {
-        self.store.path_of(o)
     }
 
     /// The object of a fragment, and none where it names none.

@@ -8,6 +8,7 @@ ghost use Rattle.model_store.specs.Order.{HasNoCycle};
 ghost use Rattle.model_store.specs.Paths.{step_text, root_text, steps_within, top_within, path, GivesPath};
 
 use crate::lookups::is_many;
+use crate::model::Model;
 use crate::parts::Cellv;
 use crate::refusal::StoreRefusal;
 use crate::store::Store;
@@ -130,11 +131,11 @@ struct Climb {
 }
 
 #[tactic(auto, unfolding(crate::specs::Paths::top_within, crate::specs::Paths::steps_within))]
-fn climbed(model: &Store, o: ObjId) -> Result<Climb, AllocError>
+fn climbed(model: &Model, o: ObjId) -> Result<Climb, AllocError>
     ensures top { IfOk result (λ climb. climb.top ≡ top_within (suc (length model.now.objects)) model.now o) }
     ensures steps { IfOk result (λ climb. reverse climb.steps.items ≡ steps_within (suc (length model.now.objects)) model.now o) }
 {
-    let mut steps = Vec::new(model.alloc());
+    let mut steps = Vec::new(model.store().alloc());
     let mut top = o;
     for level in 0..model.given() as usize + 1 {
         let Some((from, feature)) = model.holder(top) else {
@@ -151,10 +152,10 @@ fn climbed(model: &Store, o: ObjId) -> Result<Climb, AllocError>
     Ok(Climb { top, steps })
 }
 
-impl Store {
-    // The fragment of an object: `/`, or `/k` for root k from 0 where there are several, and then `/@f.i` or `/@f` for each
-    // step to a content, i from 0.
-    pub(crate) fn path_of(&self, o: ObjId) -> Result<Text, StoreRefusal>
+impl Model {
+    /// The fragment of an object: `/`, or `/k` for root k from 0 where there are several, and then `/@f.i` or `/@f` for each
+    /// step to a content, i from 0.
+    pub fn path_of(&self, o: ObjId) -> Result<Text, StoreRefusal>
         requires { HasNoCycle self.now }
         ensures { GivesPath self.now o result }
     {
@@ -162,9 +163,9 @@ impl Store {
             return Err(StoreRefusal::NoObject);
         }
         let Climb { top, steps } = climbed(self, o)?;
-        let mut text = Text::new(self.alloc());
-        push_root(&mut text, self, top)?;
-        push_steps(&mut text, self, steps)?;
+        let mut text = Text::new(self.store().alloc());
+        push_root(&mut text, self.store(), top)?;
+        push_steps(&mut text, self.store(), steps)?;
         Ok(text)
     }
 }

@@ -5,10 +5,12 @@ ghost use Rattle.std.specs.Option.{option_copied, option_map_or};
 ghost use Rattle.model_store.specs.declared.parts.Object.{Object};
 ghost use Rattle.model_store.specs.Valid.{IsConcrete, IsModel};
 ghost use Rattle.model_store.specs.Writes.{freed, taken_in, rewired, Creates, Writes};
-ghost use Rattle.model_store.specs.Contents.{object_count, object_at, class_of, slot, with_slot, set_slot, refusal, container, holder, place_in, HasPlace, IsShaped};
+ghost use Rattle.model_store.specs.Contents.{object_count, object_at, class_of, slot, with_slot, set_slot, refusal, holder, place_in, HasPlace, IsShaped};
+ghost use Rattle.model_store.specs.HolderTables.{AreHolders};
 
 use crate::adding::rewire;
 use crate::attributes::{fresh, written};
+use crate::containing::{clear, note_place};
 use crate::copies::copy_objects;
 use crate::lookups::{holding_place, place_in, refers};
 use crate::parts::{Cellv, Object, Slot};
@@ -199,11 +201,15 @@ impl Store {
         None
     }
 
-    // The object that contains another, and none for a root and where there is no such object.
-    pub(crate) fn container(&self, p: ObjId) -> Option<ObjId>
-        ensures { result ≡ container self.now p }
+    // Where each object is contained, into a table with a place for each.
+    pub(crate) fn note_holders(&self, holders: &mut [Option<(ObjId, FeatId)>])
+        requires { length holders.old ≡ length self.now.objects }
+        ensures { AreHolders self.now holders.new }
     {
-        Some(self.holder(p)?.0)
+        clear(holders);
+        for at in 0..self.objects.len() {
+            note_place(holders, &self.meta, ObjId(at as u32), &self.objects[at]);
+        }
     }
 
     // The place of a feature's slot in its object.
