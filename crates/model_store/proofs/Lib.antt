@@ -7,6 +7,7 @@ mod Folded
 mod Holders
 mod Keeping
 mod Kept
+mod LoneModel
 mod NamedObjects
 mod Numbers
 mod Noting
