@@ -178,7 +178,7 @@ gives_back m valid model f p r = on (opposite m.meta f) refl
     on (Some g) e = at g e (is_many m.meta g) refl (first_object (slot m p g)) refl
 
 -- a containment is a reference
-contains_refers : (meta : Parts) (f : FeatId) → contains meta f ≡ true → refers meta f ≡ true
+pub contains_refers : (meta : Parts) (f : FeatId) → contains meta f ≡ true → refers meta f ≡ true
 contains_refers meta f h = on (slice_get meta.features f.0) h
   where
     kind : (k : FeatKind) → is_containment k ≡ true → is_reference k ≡ true

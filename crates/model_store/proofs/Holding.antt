@@ -22,7 +22,7 @@ use Rattle.model_store.proofs.Thinned.{held, holding, Contains_none}
 abbrev no_list : List (List Cellv)
 no_list = []
 
-no_slots : (k : ℕ) → slice_index_or no_list k [] ≡ []
+pub no_slots : (k : ℕ) → slice_index_or no_list k [] ≡ []
 no_slots zero = refl
 no_slots (suc k) = refl
 
@@ -94,7 +94,7 @@ module _ (meta : Parts) (p : ObjId) where
 
 -- what an object refers to stands in the slot of a place of it
 module _ (m : Contents) (o p : ObjId) (f : FeatId) where
-  record IsReferredIn : Type 0 where
+  pub record IsReferredIn : Type 0 where
     pub object : Object
     pub there : object_at m.objects o ≡ Some object
     pub place : ℕ
@@ -102,7 +102,7 @@ module _ (m : Contents) (o p : ObjId) (f : FeatId) where
     pub feature : slice_index_or (features m.meta.classes object.class) place f ≡ f
     pub it : Contains (slice_index_or object.slots place []) (Obj p)
 
-  referred : Refers m o f p → IsReferredIn
+  pub referred : Refers m o f p → IsReferredIn
   referred h = by_object (object_at m.objects o) refl h
     where
       by_place : (object : Object) → object_at m.objects o ≡ Some object → (k : Option ℕ) → place_in m.meta object.class f ≡ k → Contains (option_map_or (λ k. slice_index_or object.slots k []) k []) (Obj p) → IsReferredIn

@@ -15,10 +15,10 @@ use Rattle.model_store.specs.Writes.{freed, taken_in, cut, cut_back, join, join_
 use Rattle.model_store.specs.Laws.{KeepsObjects, IsWriteLaw}
 use Rattle.model_store.proofs.Updates.{found_within}
 
-same : (m : Contents) → KeepsObjects m m
+pub same : (m : Contents) → KeepsObjects m m
 same m = record { meta = refl; numbers = refl; classes = λ o. refl }
 
-after : (a b c : Contents) → KeepsObjects a b → KeepsObjects b c → KeepsObjects a c
+pub after : (a b c : Contents) → KeepsObjects a b → KeepsObjects b c → KeepsObjects a c
 after a b c k l = record { meta = l.meta ∙ k.meta; numbers = l.numbers ∙ k.numbers; classes = λ o. l.classes o ∙ k.classes o }
 
 either : (m x y : Contents) (b : Bool) → KeepsObjects m x → KeepsObjects m y → KeepsObjects m (if b then x else y)

@@ -1,12 +1,25 @@
 mod Chains
 mod Climbing
+mod Counted
+mod Cuts
 mod Digits
+mod Folded
 mod Holders
 mod Keeping
+mod Kept
+mod LoneModel
+mod NamedObjects
 mod Numbers
+mod Noting
+mod PathDigits
+mod PathRoots
 mod PathRows
+mod PathSteps
+mod PathsBack
+mod Readings
 mod Places
 mod Rising
+mod SameHolders
 mod Trees
 mod Updates
 pub mod Slots

@@ -20,7 +20,7 @@ digits_are (c ∷ cs) e =
     let d = digit_value_digit c r in
     (omega (arith, d, r.0, r.1), digits_are cs parts.1)
 
-value_after : (n : ℕ) (ds : List ℕ) → list_all (is_in_range 48 57) ds ≡ true → digits_value_after 10 n ds ≡ fold (λ k digit. 10 * k + (digit - 48)) n ds
+pub value_after : (n : ℕ) (ds : List ℕ) → list_all (is_in_range 48 57) ds ≡ true → digits_value_after 10 n ds ≡ fold (λ k digit. 10 * k + (digit - 48)) n ds
 value_after n [] e = refl
 value_after n (c ∷ cs) e =
     let parts = and_parts (is_in_range 48 57 c) (list_all (is_in_range 48 57) cs) e in

@@ -1,4 +1,6 @@
 pub mod Contents
+pub mod Folds
+pub mod HolderTables
 pub mod Laws
 pub mod Order
 pub mod Paths

@@ -4,17 +4,20 @@ use Rattle.std.specs.Prelude.{◌≡◌, ℕ, zero, suc, ◌==◌, flat_map, IsS
 use Rattle.std.specs.Fmt.{decimal}
 use Rattle.std.specs.Int.{is_in_range}
 use Rattle.std.specs.List.{position_or_len, find, list_all, list_any, slice_split, before_first, after_first}
-use Rattle.std.specs.Option.{option_map_or}
+use Rattle.std.specs.Option.{option_map_or, option_and_then}
 use Rattle.std.specs.Str.{bytes_eq}
+use Rattle.atl_base.specs.declared.numbers.ClassId.{ClassId}
 use Rattle.atl_base.specs.declared.numbers.FeatId.{FeatId}
 use Rattle.atl_base.specs.declared.numbers.ObjId.{ObjId}
+use Rattle.ecore_meta.specs.declared.parts.Parts.{Parts}
 use Rattle.ecore_meta.specs.Inheritance.{features, name_of}
 use Rattle.ecore_meta.specs.Valid.{number_of}
-use Rattle.model_store.specs.declared.parts.Object.{Object}
+use Rattle.model_store.specs.declared.parts.Cellv.{Cellv}
+use Rattle.model_store.specs.declared.parts.Cellv.TheVariants.{Obj}
 use Rattle.model_store.specs.declared.path.Step.{Step}
 use Rattle.model_store.specs.declared.refusal.StoreRefusal.{StoreRefusal}
 use Rattle.model_store.specs.declared.refusal.StoreRefusal.TheVariants.{NoObject, NoFeature, BadType, Full, Memory}
-use Rattle.model_store.specs.Contents.{Contents, is_object_no, object_at, is_many, contains, slot, refers_to, objects_of, first_object, holder}
+use Rattle.model_store.specs.Contents.{Contents, is_object_no, object_at, class_of, is_many, contains, slot, refers_to, first_object, holder}
 
 -- ## The fragment of an object
 
@@ -52,8 +55,11 @@ GivesPath m o (Err Full) = ⊥
 -- ## The object of a fragment
 
 -- the parts of a text between its slashes
+abbrev pub is_slash : ℕ → Bool
+is_slash b = b == 47
+
 abbrev pub parts_of : List ℕ → List (List ℕ)
-parts_of = slice_split (λ b. b == 47)
+parts_of = slice_split is_slash
 
 -- one digit or more
 abbrev pub are_digits : List ℕ → Bool
@@ -61,29 +67,49 @@ are_digits [] = false
 are_digits (b ∷ bytes) = list_all (is_in_range 48 57) (b ∷ bytes)
 
 -- the element of a number, which is counted from 0
-abbrev pub numbered : List ObjId → List ℕ → Option ObjId
-numbered objects digits = if are_digits digits then slice_get objects (number_of digits) else None
+abbrev pub at_number : {X : Type 0} → List X → List ℕ → Option X
+at_number xs digits = if are_digits digits then slice_get xs (number_of digits) else None
 
 -- an empty part names the single root
 abbrev pub root_named : List ObjId → List ℕ → Option ObjId
 root_named (o ∷ []) [] = Some o
-root_named roots digits = numbered roots digits
+root_named roots digits = at_number roots digits
 
 -- the containment feature of a name
-abbrev pub content_feature : Contents → Object → List ℕ → Option FeatId
-content_feature m object name = find (λ f. contains m.meta f && bytes_eq (name_of m.meta.features f) name) (features m.meta.classes object.class)
+abbrev pub is_content : Parts → List ℕ → FeatId → Bool
+is_content meta name f = contains meta f && bytes_eq (name_of meta.features f) name
+
+abbrev pub content_feature : Parts → ClassId → List ℕ → Option FeatId
+content_feature meta class name = find (is_content meta name) (features meta.classes class)
+
+-- the object that a value is
+abbrev pub object_in : Cellv → Option ObjId
+object_in (Obj q) = Some q
+object_in _ = None
+
+-- `i`: the content at this place of a many-valued feature
+abbrev pub content_at : List Cellv → List ℕ → Option ObjId
+content_at cells digits = option_and_then object_in (at_number cells digits)
+
+abbrev pub many_content : Contents → ObjId → List ℕ → FeatId → Option ObjId
+many_content m o digits f = if is_many m.meta f then content_at (slot m o f) digits else None
+
+-- the only content of a single-valued feature
+abbrev pub single_content : Contents → ObjId → FeatId → Option ObjId
+single_content m o f = if is_many m.meta f then None else first_object (slot m o f)
 
 -- `f.i` of a many-valued feature, `f` of a single-valued one; no name has a `.`
-abbrev pub content_by : Contents → ObjId → List ℕ → FeatId → Option ObjId
-content_by m o text f = if is_many m.meta f
-    then (if list_any (λ b. b == 46) text then numbered (objects_of (slot m o f)) (after_first (λ b. b == 46) text) else None)
-    else (if list_any (λ b. b == 46) text then None else first_object (slot m o f))
+abbrev pub is_dot : ℕ → Bool
+is_dot b = b == 46
+
+abbrev pub content_in_class : Contents → ObjId → List ℕ → ClassId → Option ObjId
+content_in_class m o text class = if list_any is_dot text
+    then option_and_then (many_content m o (after_first is_dot text)) (content_feature m.meta class (before_first is_dot text))
+    else option_and_then (single_content m o) (content_feature m.meta class text)
 
 abbrev pub content_named : Contents → ObjId → List ℕ → Option ObjId
 content_named m o [] = None
-content_named m o (b ∷ text) = if b == 64
-    then option_map_or (λ object. option_map_or (content_by m o text) (content_feature m object (before_first (λ b. b == 46) text)) None) (object_at m.objects o) None
-    else None
+content_named m o (b ∷ text) = if b == 64 then option_and_then (content_in_class m o text) (class_of m o) else None
 
 abbrev pub descend : Contents → Option ObjId → List (List ℕ) → Option ObjId
 descend m None parts = None

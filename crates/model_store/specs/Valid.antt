@@ -8,7 +8,7 @@ use Rattle.atl_base.specs.declared.numbers.ObjId.{ObjId}
 use Rattle.ecore_meta.specs.declared.parts.FeatKind.{FeatKind}
 use Rattle.ecore_meta.specs.declared.parts.Parts.{Parts}
 use Rattle.ecore_meta.specs.declared.parts.FeatKind.TheVariants as Kind
-use Rattle.ecore_meta.specs.Valid.{AllDiffer}
+use Rattle.ecore_meta.specs.Valid.{AllDiffer, IsMetamodel}
 use Rattle.model_store.specs.declared.parts.Cellv.{Cellv}
 use Rattle.model_store.specs.declared.parts.Cellv.TheVariants.{Words, Int, Truth, Literal, Obj}
 use Rattle.model_store.specs.Contents.{Contents, object_at, class_of, slot, refers, is_many, contains, opposite, refusal, AreShaped, container}
@@ -62,3 +62,8 @@ pub record IsModel (m : Contents) : Type 0 where
   -- the roots are the objects without a container, each once
   pub roots : (o : ObjId) → Contains m.roots o ↔ (IsSome (object_at m.objects o) × (container m o ≡ None))
   pub roots_differ : AllDiffer m.roots
+
+-- What is true of each value of the type of models. Its metamodel is valid too.
+pub record IsValid (m : Contents) : Type 0 where
+  pub metamodel : IsMetamodel m.meta
+  pub model : IsModel m

@@ -3,15 +3,15 @@ ghost use Rattle.std.specs.Prelude.{◌≡◌, OnOk};
 ghost use Rattle.model_store.specs.Writes.{give_up, give_up_back, leave, make_way, add, add_all, rewired};
 
 use crate::lookups::{contains, first_object, holds, is_contained_by, is_many, opposite};
-use crate::model::Model;
 use crate::pairs::{link, unlink};
 use crate::parts::Cellv;
+use crate::store::Store;
 use atl_base::numbers::{FeatId, ObjId};
 use std::alloc::AllocError;
 
 // A single-valued reference gives up what it holds.
 #[tactic(auto, unfolding(crate::specs::Writes::give_up))]
-fn give_up(model: &mut Model, o: ObjId, f: FeatId) -> Result<(), AllocError>
+fn give_up(model: &mut Store, o: ObjId, f: FeatId) -> Result<(), AllocError>
     ensures { OnOk result (model.new ≡ give_up o f model.old) }
 {
     if is_many(model.meta(), f) {
@@ -25,7 +25,7 @@ fn give_up(model: &mut Model, o: ObjId, f: FeatId) -> Result<(), AllocError>
 
 // A single-valued opposite g of f gives up what p.g holds.
 #[tactic(auto, unfolding(crate::specs::Writes::give_up_back))]
-fn give_up_back(model: &mut Model, f: FeatId, p: ObjId) -> Result<(), AllocError>
+fn give_up_back(model: &mut Store, f: FeatId, p: ObjId) -> Result<(), AllocError>
     ensures { OnOk result (model.new ≡ give_up_back f p model.old) }
 {
     let Some(g) = opposite(model.meta(), f) else {
@@ -42,7 +42,7 @@ fn give_up_back(model: &mut Model, f: FeatId, p: ObjId) -> Result<(), AllocError
 
 // An object leaves the container that it is in.
 #[tactic(auto, unfolding(crate::specs::Writes::leave))]
-fn leave(model: &mut Model, p: ObjId) -> Result<(), AllocError>
+fn leave(model: &mut Store, p: ObjId) -> Result<(), AllocError>
     ensures { OnOk result (model.new ≡ leave p model.old) }
 {
     match model.holder(p) {
@@ -53,7 +53,7 @@ fn leave(model: &mut Model, p: ObjId) -> Result<(), AllocError>
 
 // What is to be contained leaves its container.
 #[tactic(auto, unfolding(crate::specs::Writes::make_way))]
-fn make_way(model: &mut Model, o: ObjId, f: FeatId, p: ObjId) -> Result<(), AllocError>
+fn make_way(model: &mut Store, o: ObjId, f: FeatId, p: ObjId) -> Result<(), AllocError>
     ensures { OnOk result (model.new ≡ make_way o f p model.old) }
 {
     if contains(model.meta(), f) {
@@ -67,7 +67,7 @@ fn make_way(model: &mut Model, o: ObjId, f: FeatId, p: ObjId) -> Result<(), Allo
 
 // Adds p to o.f.
 #[tactic(auto, unfolding(crate::specs::Writes::add))]
-fn add(model: &mut Model, o: ObjId, f: FeatId, p: ObjId) -> Result<(), AllocError>
+fn add(model: &mut Store, o: ObjId, f: FeatId, p: ObjId) -> Result<(), AllocError>
     ensures { OnOk result (model.new ≡ add o f p model.old) }
 {
     if holds(model.cells(o, f), p) {
@@ -80,7 +80,7 @@ fn add(model: &mut Model, o: ObjId, f: FeatId, p: ObjId) -> Result<(), AllocErro
 }
 
 // Adds the values one by one.
-fn add_all(model: &mut Model, o: ObjId, f: FeatId, values: &[Cellv]) -> Result<(), AllocError>
+fn add_all(model: &mut Store, o: ObjId, f: FeatId, values: &[Cellv]) -> Result<(), AllocError>
     ensures { OnOk result (model.new ≡ add_all o f values.now model.old) }
 {
     for value in values {
@@ -93,7 +93,7 @@ fn add_all(model: &mut Model, o: ObjId, f: FeatId, values: &[Cellv]) -> Result<(
 
 // Writes to a reference.
 pub(crate) fn rewire(
-    model: &mut Model,
+    model: &mut Store,
     o: ObjId,
     f: FeatId,
     values: &[Cellv],

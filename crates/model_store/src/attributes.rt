@@ -1,5 +1,5 @@
 // Writing to attributes: values appended or replaced, and the defaults.
-ghost use Rattle.std.specs.Prelude.{◌≡◌, ◌<◌, length, position, IfOk, OnOk};
+ghost use Rattle.std.specs.Prelude.{◌≡◌, ◌∷◌, [], ◌<◌, length, position, IfOk, OnOk};
 ghost use Rattle.std.specs.List.{list_any};
 ghost use Rattle.std.specs.Str.{bytes_eq};
 ghost use Rattle.std.specs.Str.Parse.{signed_digits_value};
@@ -124,21 +124,29 @@ fn value_of_text(
     }
 }
 
+// The slot of one value, with room for no other: most slots of a model are of this sort.
+fn single(alloc: Global, value: Cellv) -> Result<Slot, AllocError>
+    ensures { IfOk result (λ slot. slot ≡ value ∷ []) }
+{
+    let mut slot = Vec::with_capacity(alloc, 1)?;
+    slot.push(value)?;
+    Ok(Items::from_vec(slot))
+}
+
 // What a slot holds that nothing was written to.
 fn initial(alloc: Global, meta: &Metamodel, f: FeatId) -> Result<Slot, AllocError>
     ensures { IfOk result (λ slot. slot ≡ initial meta.now f) }
 {
-    let mut slot = Items::new(alloc);
     let Some(feature) = feature(meta, f) else {
-        return Ok(slot);
+        return Ok(Items::new(alloc));
     };
     if feature.many || is_reference(feature.kind) {
-        return Ok(slot);
+        return Ok(Items::new(alloc));
     }
-    if let Some(text) = &feature.default {
-        slot.push(value_of_text(alloc, meta, feature.kind, text)?)?;
+    match &feature.default {
+        Some(text) => single(alloc, value_of_text(alloc, meta, feature.kind, text)?),
+        None => Ok(Items::new(alloc)),
     }
-    Ok(slot)
 }
 
 // An object that nothing was written to.
@@ -173,7 +181,5 @@ pub(crate) fn written(
     let Some(value) = values.first() else {
         return initial(alloc, meta, f);
     };
-    let mut slot = Items::new(alloc);
-    slot.push(copy_value(alloc, value)?)?;
-    Ok(slot)
+    single(alloc, copy_value(alloc, value)?)
 }

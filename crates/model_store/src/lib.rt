@@ -3,7 +3,9 @@
 
 mod adding;
 mod attributes;
+mod containing;
 mod copies;
+mod fragments;
 pub mod laws;
 mod lookups;
 pub mod model;
@@ -13,6 +15,7 @@ pub mod parts;
 mod path;
 pub mod refusal;
 mod roots;
+mod store;
 #[cfg(test)]
 mod tests;
 mod types;

@@ -1,19 +1,17 @@
-// A model over a metamodel.
-ghost use Rattle.std.specs.Prelude.{◌≡◌, ◌≤◌, ◌<◌, ◌⊎◌, ◌++◌, ◌∷◌, IfOk, OnOk, IfSome, MatchResult, [], length, Some, None, option_map, is_ok, if◌then◌else◌, map};
-ghost use Rattle.std.specs.Option.{option_copied, option_map_or};
-ghost use Rattle.model_store.specs.declared.parts.Object.{Object};
+// Models: the type whose values are always models, and its calls.
+ghost use Rattle.std.specs.Prelude.{◌≡◌, ◌≤◌, ◌<◌, ◌^◌, IfOk, IfSome, MatchResult, [], length, Some, None, map};
+ghost use Rattle.ecore_meta.specs.Valid.{IsMetamodel};
+ghost use Rattle.model_store.specs.Contents.{class_of, container, holder, refusal, slot};
+ghost use Rattle.model_store.specs.Folds.{empty};
+ghost use Rattle.model_store.specs.Order.{preorder, HasNoCycle, IsExtent};
+ghost use Rattle.model_store.specs.Paths.{object_of_path};
 ghost use Rattle.model_store.specs.Valid.{IsConcrete, IsModel};
-ghost use Rattle.model_store.specs.Writes.{freed, taken_in, rewired, Creates, Writes};
-ghost use Rattle.model_store.specs.Contents.{object_count, object_at, class_of, slot, with_slot, set_slot, refusal, container, holder, place_in, HasPlace, IsShaped};
+ghost use Rattle.model_store.specs.Writes.{Creates, Writes};
 
-use crate::adding::rewire;
-use crate::attributes::{fresh, written};
-use crate::copies::copy_objects;
-use crate::lookups::{holding_place, place_in, refers};
-use crate::parts::{Cellv, Object, Slot};
+use crate::lookups::refers;
+use crate::parts::{Object, Slot};
 use crate::refusal::StoreRefusal;
-use crate::roots::{insert_root, remove_root};
-use crate::types::fits;
+use crate::store::Store;
 use atl_base::numbers::{ClassId, FeatId, ObjId};
 use ecore_meta::metamodel::Metamodel;
 use std::alloc::{AllocError, Global};
@@ -22,79 +20,40 @@ use std::rc::Rc;
 /// A model. Contracts see it as its metamodel's lists, its objects and its roots.
 #[derive(Drop)]
 pub struct Model {
-    alloc: Global,
-    meta: Rc<Metamodel>,
-    // at each number the object, or none where it is gone
-    objects: Vec<Option<Object>>,
-    // how many objects there are
-    count: usize,
-    roots: Vec<ObjId>,
+    store: Store,
+    // for each number the container of its object and the feature, where it has one
+    holders: Vec<Option<(ObjId, FeatId)>>,
 }
 
 impl std::marker::Model for Model {
-    ghost use Rattle.std.specs.Prelude.{◌≡◌, ◌<◌, ◌^◌, length};
-    ghost use Rattle.model_store.specs.Contents.{Contents, object_count, AreShaped};
+    ghost use Rattle.model_store.specs.Contents.{Contents};
+    ghost use Rattle.model_store.specs.HolderTables.{AreHolders};
+    ghost use Rattle.model_store.specs.Valid.{IsValid};
 
     ghost Value = { Contents };
 
-    ghost view = { λ m. record { meta = m.meta.value; objects = m.objects.items; roots = m.roots.items } };
+    ghost view = { λ m. m.store };
 
-    ghost invariant = { λ m. (m.count ≡ object_count m.objects.items) × (length m.objects.items < 2 ^ 32)
-        × AreShaped m.meta.value m.objects.items };
+    ghost invariant = { λ m. IsValid m.store × AreHolders m.store m.holders.items };
 }
 
-// Other values in the slot at this place.
-fn set_cells(place: &mut Option<Object>, at: usize, cells: Slot)
-    requires { (object : Object) → place.old ≡ Some object → at < length object.slots }
-    ensures { place.new ≡ option_map (λ object. with_slot object at cells) place.old }
+// The model that a store is.
+fn made(alloc: Global, store: Store) -> Result<Model, AllocError>
+    requires { IsModel store }
+    ensures { IfOk result (λ model. model ≡ store) }
 {
-    if let Some(object) = place {
-        object.slots.set(at, cells);
-    }
-}
-
-// Objects at their places.
-fn placed(alloc: Global, objects: Vec<Object>) -> Result<Vec<Option<Object>>, AllocError>
-    ensures { IfOk result (λ places. places.items ≡ map Some objects.items) }
-{
-    objects
-        .into_iter()
-        .map(|object| Some(object))
-        .collect(alloc)
-}
-
-// An object more, which is a root.
-fn push_root(
-    objects: &mut Vec<Option<Object>>,
-    roots: &mut Vec<ObjId>,
-    object: Object,
-    o: ObjId,
-) -> Result<(), AllocError>
-    ensures objects { objects.new.items ≡ (if is_ok result then objects.old.items ++ Some object ∷ [] else objects.old.items) }
-    ensures roots { roots.new.items ≡ (if is_ok result then roots.old.items ++ o ∷ [] else roots.old.items) }
-{
-    objects.reserve(1)?;
-    if roots.push(o).is_err() {
-        return Err(AllocError);
-    }
-    match objects.push(Some(object)) {
-        Ok(()) => Ok(()),
-        Err(_) => Err(AllocError),
-    }
+    let _ = store.meta().parts();
+    let mut holders = vec![in alloc; None; store.given() as usize]?;
+    store.note_holders(&mut holders);
+    Ok(Model { store, holders })
 }
 
 impl Model {
     /// The model without objects.
     pub fn new(alloc: Global, meta: Rc<Metamodel>) -> Result<Model, AllocError>
-        ensures { IfOk result (λ model. model ≡ record { meta = meta.value; objects = []; roots = [] }) }
+        ensures { IfOk result (λ model. model ≡ empty meta.value) }
     {
-        Ok(Model {
-            alloc,
-            meta,
-            objects: Vec::new(alloc),
-            count: 0,
-            roots: Vec::new(alloc),
-        })
+        made(alloc, Store::new(alloc, meta)?)
     }
 
     /// The model of these objects, numbered from 0 in their order, and of these roots. There may be containment cycles.
@@ -108,15 +67,17 @@ impl Model {
         requires model { IsModel (record { meta = meta.value; objects = map Some objects.items; roots = roots.items }) }
         ensures { IfOk result (λ model. model ≡ record { meta = meta.value; objects = map Some objects.items; roots = roots.items }) }
     {
-        let count = objects.len();
-        let objects = placed(alloc, objects)?;
-        Ok(Model {
-            alloc,
-            meta,
-            objects,
-            count,
-            roots,
-        })
+        made(alloc, Store::from_parts(alloc, meta, objects, roots)?)
+    }
+
+    /// Tells a caller what is true of each model: it is one, freedom from containment cycles aside, its metamodel is valid, and
+    /// its numbers have 32 bits.
+    pub fn valid(&self)
+        ensures model { IsModel self.now }
+        ensures metamodel { IsMetamodel self.now.meta }
+        ensures few { length self.now.objects < 2 ^ 32 }
+    {
+        let _given = self.store.given();
     }
 
     /// A new object of a class that is not abstract: the last root.
@@ -125,43 +86,37 @@ impl Model {
         requires concrete { IsConcrete self.old.meta class }
         ensures { Creates self.old class result self.new }
     {
-        if self.count >= 1_000_000 || self.objects.len() >= 4_294_967_295 {
-            return Err(StoreRefusal::Full);
+        if self.holders.push(None).is_err() {
+            return Err(StoreRefusal::Memory);
         }
-        let object = fresh(self.alloc, &self.meta, class)?;
-        let o = ObjId(self.objects.len() as u32);
-        push_root(&mut self.objects, &mut self.roots, object, o)?;
-        self.count += 1;
-        Ok(o)
+        match self.store.create(class) {
+            Ok(o) => Ok(o),
+            Err(refused) => {
+                self.holders.pop();
+                Err(refused)
+            }
+        }
     }
 
     /// The metamodel.
     pub fn meta(&self) -> &Rc<Metamodel>
         ensures { result.now.value ≡ self.now.meta }
     {
-        &self.meta
+        self.store.meta()
     }
 
     /// The roots, in their order.
     pub fn roots(&self) -> &[ObjId]
         ensures { result.now ≡ self.now.roots }
     {
-        &self.roots
+        self.store.roots()
     }
 
     /// How many numbers have been given: they are given from 0 on without a gap.
     pub fn given(&self) -> u32
         ensures { result ≡ length self.now.objects }
     {
-        self.objects.len() as u32
-    }
-
-    // The object of a number.
-    pub(crate) fn object(&self, o: ObjId) -> Option<&Object>
-        ensures object { option_copied result ≡ object_at self.now.objects o }
-        ensures shaped { IfSome result (λ object. IsShaped self.now.meta object.now) }
-    {
-        self.objects.get(o.0 as usize)?.as_ref()
+        self.store.given()
     }
 
     /// The class of an object, and none where there is no such object.
@@ -169,7 +124,7 @@ impl Model {
         ensures class { result ≡ class_of self.now o }
         ensures within { IfSome result (λ c. c.0 < length self.now.meta.classes) }
     {
-        Some(self.object(o)?.class)
+        self.store.class(o)
     }
 
     /// The values of a feature of an object.
@@ -177,25 +132,14 @@ impl Model {
         ensures { MatchResult result (λ cells. (refusal self.now o f ≡ None) × (cells.now ≡ slot self.now o f))
             (λ e. refusal self.now o f ≡ Some e) }
     {
-        let Some(object) = self.object(o) else {
-            return Err(StoreRefusal::NoObject);
-        };
-        match place_in(&self.meta, object.class, f) {
-            Some(at) => Ok(&object.slots.as_slice()[at]),
-            None => Err(StoreRefusal::NoFeature),
-        }
+        self.store.get(o, f)
     }
 
     // Where an object is contained: the container and its feature.
     pub(crate) fn holder(&self, p: ObjId) -> Option<(ObjId, FeatId)>
         ensures { result ≡ holder self.now p }
     {
-        for at in 0..self.objects.len() {
-            if let Some(f) = holding_place(&self.meta, p, &self.objects[at]) {
-                return Some((ObjId(at as u32), f));
-            }
-        }
-        None
+        *self.holders.get(p.0 as usize)?
     }
 
     /// The object that contains another, and none for a root and where there is no such object.
@@ -205,52 +149,16 @@ impl Model {
         Some(self.holder(p)?.0)
     }
 
-    // The place of a feature's slot in its object.
-    fn place(&self, o: ObjId, f: FeatId) -> Option<usize>
-        ensures place { result ≡ option_map_or (λ object. place_in self.now.meta object.class f) (object_at self.now.objects o) None }
-        ensures within { IfSome result (λ at. HasPlace self.now.meta self.now.objects o at) }
+    /// Writes to a feature of an object: a single-valued one takes the only value, and is reset by none; a many-valued one
+    /// appends the values in their order, and skips those that it has where it is unique. A containment cycle may arise.
+    pub fn write(&mut self, o: ObjId, f: FeatId, values: &Slot) -> Result<(), StoreRefusal>
+        ensures { Writes self.old o f values.now result self.new }
     {
-        let object = self.object(o)?;
-        place_in(&self.meta, object.class, f)
-    }
-
-    // The values of a feature of an object, and none where there is no such slot.
-    pub(crate) fn cells(&self, o: ObjId, f: FeatId) -> &[Cellv]
-        ensures { result.now ≡ slot self.now o f }
-    {
-        match self.get(o, f) {
-            Ok(cells) => cells.as_slice(),
-            Err(_) => &[],
+        self.store.write(o, f, values)?;
+        if refers(self.store.meta(), f) {
+            self.store.note_holders(&mut self.holders);
         }
-    }
-
-    // Other values in a slot, where there is one.
-    pub(crate) fn put(&mut self, o: ObjId, f: FeatId, cells: Slot)
-        ensures { self.new ≡ set_slot self.old o f cells }
-    {
-        let Some(at) = self.place(o, f) else {
-            return;
-        };
-        set_cells(&mut self.objects[o.0 as usize], at, cells);
-    }
-
-    // An object that has no container any more becomes a root.
-    pub(crate) fn free(&mut self, o: ObjId) -> Result<(), AllocError>
-        ensures { OnOk result (self.new ≡ freed o self.old) }
-    {
-        insert_root(&mut self.roots, o)
-    }
-
-    // An object that has a container is no root.
-    pub(crate) fn take_in(&mut self, o: ObjId)
-        ensures { self.new ≡ taken_in o self.old }
-    {
-        remove_root(&mut self.roots, o);
-    }
-
-    // What the objects are made with.
-    pub(crate) fn alloc(&self) -> Global {
-        self.alloc
+        Ok(())
     }
 
     /// The same model again.
@@ -258,47 +166,39 @@ impl Model {
         ensures { IfOk result (λ model. model ≡ self.now) }
     {
         Ok(Model {
-            alloc: self.alloc,
-            meta: self.meta.clone()?,
-            objects: copy_objects(self.alloc, &self.objects)?,
-            count: self.count,
-            roots: Vec::from_slice(self.alloc, &self.roots)?,
+            store: self.store.copy()?,
+            holders: Vec::from_slice(self.store.alloc(), &self.holders)?,
         })
     }
 
-    /// Writes to a feature of an object: a single-valued one takes the only value, and is reset by none; a many-valued one
-    /// appends the values in their order, and skips those that it has where it is unique. A containment cycle may arise.
-    pub fn write(&mut self, o: ObjId, f: FeatId, values: &Slot) -> Result<(), StoreRefusal>
-        ensures { Writes self.old o f values.now result self.new }
+    /// All objects, from the roots in their order, each before its contents, and these by features and place.
+    pub fn preorder(&self) -> Result<Vec<ObjId>, AllocError>
+        requires { HasNoCycle self.now }
+        ensures { IfOk result (λ list. list.items ≡ preorder self.now) }
     {
-        if let Err(refused) = self.get(o, f) {
-            return Err(refused);
-        }
-        if !fits(self, f, values.as_slice()) {
-            return Err(StoreRefusal::BadType);
-        }
-        if refers(&self.meta, f) {
-            let next = self.rewired(o, f, values.as_slice())?;
-            *self = next;
-            return Ok(());
-        }
-        let cells = written(
-            self.alloc,
-            &self.meta,
-            f,
-            self.cells(o, f),
-            values.as_slice(),
-        )?;
-        self.put(o, f, cells);
-        Ok(())
+        self.store.preorder()
     }
 
-    // The model after a write to a reference.
-    fn rewired(&self, o: ObjId, f: FeatId, values: &[Cellv]) -> Result<Model, AllocError>
-        ensures { IfOk result (λ model. model ≡ rewired o f values.now self.now) }
+    /// The objects of a class and of those that inherit from it, in the same order.
+    pub fn extent(&self, class: ClassId) -> Result<Vec<ObjId>, AllocError>
+        requires class { class.0 < length self.now.meta.classes }
+        requires acyclic { HasNoCycle self.now }
+        ensures { IfOk result (λ list. IsExtent self.now class list.items) }
     {
-        let mut next = self.copy()?;
-        rewire(&mut next, o, f, values)?;
-        Ok(next)
+        self.store.extent(class)
+    }
+
+    /// The object of a fragment, and none where it names none.
+    pub fn at_path(&self, path: &str) -> Option<ObjId>
+        ensures { result ≡ object_of_path self.now path.now }
+    {
+        self.store.at_path(path)
+    }
+
+    // What it is made of.
+    pub(crate) fn store(&self) -> &Store
+        ensures { result.now ≡ self.now }
+    {
+        &self.store
     }
 }

@@ -4,8 +4,8 @@ ghost use Rattle.model_store.specs.Contents.{Contents, IsShaped, contains, objec
 ghost use Rattle.model_store.specs.Order.{contents, contents_of, preorder, HasNoCycle, IsTreeLaw, IsExtent};
 
 use crate::lookups::contains;
-use crate::model::Model;
 use crate::parts::{Cellv, Object};
+use crate::store::Store;
 use crate::types::is_of;
 use atl_base::numbers::{ClassId, FeatId, ObjId};
 use ecore_meta::metamodel::Metamodel;
@@ -53,7 +53,7 @@ fn contents_of(alloc: Global, meta: &Metamodel, object: &Object) -> Result<Vec<O
 }
 
 // The contents of an object, and none where there is no object.
-pub(crate) fn contents(model: &Model, o: ObjId) -> Result<Vec<ObjId>, AllocError>
+pub(crate) fn contents(model: &Store, o: ObjId) -> Result<Vec<ObjId>, AllocError>
     ensures { IfOk result (λ list. list.items ≡ contents model.now o) }
 {
     match model.object(o) {
@@ -74,7 +74,7 @@ fn stack_up(stack: &mut Vec<ObjId>, mut others: Vec<ObjId>) -> Result<(), AllocE
 
 // The first object of the walk goes into the order, and its contents onto the stack.
 fn step(
-    model: &Model,
+    model: &Store,
     order: &mut Vec<ObjId>,
     stack: &mut Vec<ObjId>,
     o: ObjId,
@@ -86,9 +86,9 @@ fn step(
     stack_up(stack, contents(model, o)?)
 }
 
-impl Model {
-    /// All objects, from the roots in their order, each before its contents, and these by features and place.
-    pub fn preorder(&self) -> Result<Vec<ObjId>, AllocError>
+impl Store {
+    // All objects, from the roots in their order, each before its contents, and these by features and place.
+    pub(crate) fn preorder(&self) -> Result<Vec<ObjId>, AllocError>
         requires { HasNoCycle self.now }
         ensures { IfOk result (λ list. list.items ≡ preorder self.now) }
     {
@@ -101,8 +101,8 @@ impl Model {
         Ok(order)
     }
 
-    /// The objects of a class and of those that inherit from it, in the same order.
-    pub fn extent(&self, class: ClassId) -> Result<Vec<ObjId>, AllocError>
+    // The objects of a class and of those that inherit from it, in the same order.
+    pub(crate) fn extent(&self, class: ClassId) -> Result<Vec<ObjId>, AllocError>
         requires class { class.0 < length self.now.meta.classes }
         requires acyclic { HasNoCycle self.now }
         ensures { IfOk result (λ list. IsExtent self.now class list.items) }

@@ -5,13 +5,13 @@ ghost use Rattle.model_store.specs.Writes.{cut, cut_back, free_ends, unlink, joi
 
 use crate::copies::{with_object, without};
 use crate::lookups::{contains, holds, is_contained_by, opposite};
-use crate::model::Model;
+use crate::store::Store;
 use atl_base::numbers::{FeatId, ObjId};
 use std::alloc::AllocError;
 
 // Takes q out of o.f.
 #[tactic(auto, unfolding(crate::specs::Writes::cut))]
-fn cut(model: &mut Model, o: ObjId, f: FeatId, q: ObjId) -> Result<(), AllocError>
+fn cut(model: &mut Store, o: ObjId, f: FeatId, q: ObjId) -> Result<(), AllocError>
     ensures { OnOk result (model.new ≡ cut o f q model.old) }
 {
     let rest = without(model.alloc(), q, model.cells(o, f))?;
@@ -21,7 +21,7 @@ fn cut(model: &mut Model, o: ObjId, f: FeatId, q: ObjId) -> Result<(), AllocErro
 
 // Appends q to o.f, unless it is there.
 #[tactic(auto, unfolding(crate::specs::Writes::join))]
-fn join(model: &mut Model, o: ObjId, f: FeatId, q: ObjId) -> Result<(), AllocError>
+fn join(model: &mut Store, o: ObjId, f: FeatId, q: ObjId) -> Result<(), AllocError>
     ensures { OnOk result (model.new ≡ join o f q model.old) }
 {
     if holds(model.cells(o, f), q) {
@@ -34,7 +34,7 @@ fn join(model: &mut Model, o: ObjId, f: FeatId, q: ObjId) -> Result<(), AllocErr
 
 // Takes o out of the opposite slot of q.
 #[tactic(auto, unfolding(crate::specs::Writes::cut_back))]
-fn cut_back(model: &mut Model, o: ObjId, f: FeatId, q: ObjId) -> Result<(), AllocError>
+fn cut_back(model: &mut Store, o: ObjId, f: FeatId, q: ObjId) -> Result<(), AllocError>
     ensures { OnOk result (model.new ≡ cut_back o f q model.old) }
 {
     match opposite(model.meta(), f) {
@@ -45,7 +45,7 @@ fn cut_back(model: &mut Model, o: ObjId, f: FeatId, q: ObjId) -> Result<(), Allo
 
 // Appends o to the opposite slot of q, unless it is there.
 #[tactic(auto, unfolding(crate::specs::Writes::join_back))]
-fn join_back(model: &mut Model, o: ObjId, f: FeatId, q: ObjId) -> Result<(), AllocError>
+fn join_back(model: &mut Store, o: ObjId, f: FeatId, q: ObjId) -> Result<(), AllocError>
     ensures { OnOk result (model.new ≡ join_back o f q model.old) }
 {
     match opposite(model.meta(), f) {
@@ -56,7 +56,7 @@ fn join_back(model: &mut Model, o: ObjId, f: FeatId, q: ObjId) -> Result<(), All
 
 // What the pair contained is a root again.
 #[tactic(auto, unfolding(crate::specs::Writes::free_ends))]
-fn free_ends(model: &mut Model, o: ObjId, f: FeatId, q: ObjId) -> Result<(), AllocError>
+fn free_ends(model: &mut Store, o: ObjId, f: FeatId, q: ObjId) -> Result<(), AllocError>
     ensures { OnOk result (model.new ≡ free_ends o f q model.old) }
 {
     if contains(model.meta(), f) {
@@ -70,7 +70,7 @@ fn free_ends(model: &mut Model, o: ObjId, f: FeatId, q: ObjId) -> Result<(), All
 
 // What the pair contains is no root.
 #[tactic(auto, unfolding(crate::specs::Writes::take_ends_in))]
-fn take_ends_in(model: &mut Model, o: ObjId, f: FeatId, q: ObjId)
+fn take_ends_in(model: &mut Store, o: ObjId, f: FeatId, q: ObjId)
     ensures { model.new ≡ take_ends_in o f q model.old }
 {
     if contains(model.meta(), f) {
@@ -82,7 +82,7 @@ fn take_ends_in(model: &mut Model, o: ObjId, f: FeatId, q: ObjId)
 
 // Removes the pair of o and q.
 #[tactic(auto, unfolding(crate::specs::Writes::unlink))]
-pub(crate) fn unlink(model: &mut Model, o: ObjId, f: FeatId, q: ObjId) -> Result<(), AllocError>
+pub(crate) fn unlink(model: &mut Store, o: ObjId, f: FeatId, q: ObjId) -> Result<(), AllocError>
     ensures { OnOk result (model.new ≡ unlink o f q model.old) }
 {
     cut(model, o, f, q)?;
@@ -92,7 +92,7 @@ pub(crate) fn unlink(model: &mut Model, o: ObjId, f: FeatId, q: ObjId) -> Result
 
 // Appends the pair of o and q.
 #[tactic(auto, unfolding(crate::specs::Writes::link))]
-pub(crate) fn link(model: &mut Model, o: ObjId, f: FeatId, q: ObjId) -> Result<(), AllocError>
+pub(crate) fn link(model: &mut Store, o: ObjId, f: FeatId, q: ObjId) -> Result<(), AllocError>
     ensures { OnOk result (model.new ≡ link o f q model.old) }
 {
     join(model, o, f, q)?;

@@ -11,6 +11,7 @@ use crate::lookups::is_many;
 use crate::model::Model;
 use crate::parts::Cellv;
 use crate::refusal::StoreRefusal;
+use crate::store::Store;
 use atl_base::numbers::{FeatId, ObjId};
 use atl_base::text::Text;
 use ecore_meta::metamodel::Metamodel;
@@ -78,7 +79,7 @@ fn push_name(text: &mut Text, meta: &Metamodel, f: FeatId) -> Result<(), AllocEr
 }
 
 // Adds the place of an object in a slot of several.
-fn push_place(text: &mut Text, model: &Model, step: Step) -> Result<(), AllocError>
+fn push_place(text: &mut Text, model: &Store, step: Step) -> Result<(), AllocError>
     ensures { OnOk result (text.new ≡ text.old ++ (if is_many model.now.meta step.feature
         then 46 ∷ decimal (position_or_len (refers_to step.to) (slot model.now step.from step.feature)) else [])) }
 {
@@ -93,7 +94,7 @@ fn push_place(text: &mut Text, model: &Model, step: Step) -> Result<(), AllocErr
 }
 
 // Adds a step.
-fn push_step(text: &mut Text, model: &Model, step: Step) -> Result<(), AllocError>
+fn push_step(text: &mut Text, model: &Store, step: Step) -> Result<(), AllocError>
     ensures { OnOk result (text.new ≡ text.old ++ step_text model.now step) }
 {
     text.push_ascii("/@")?;
@@ -102,7 +103,7 @@ fn push_step(text: &mut Text, model: &Model, step: Step) -> Result<(), AllocErro
 }
 
 // Adds steps, the last first.
-fn push_steps(text: &mut Text, model: &Model, mut steps: Vec<Step>) -> Result<(), AllocError>
+fn push_steps(text: &mut Text, model: &Store, mut steps: Vec<Step>) -> Result<(), AllocError>
     ensures { OnOk result (text.new ≡ text.old ++ flat_map (step_text model.now) (reverse steps.items)) }
 {
     while let Some(step) = steps.pop() {
@@ -112,7 +113,7 @@ fn push_steps(text: &mut Text, model: &Model, mut steps: Vec<Step>) -> Result<()
 }
 
 // Adds a root.
-fn push_root(text: &mut Text, model: &Model, o: ObjId) -> Result<(), AllocError>
+fn push_root(text: &mut Text, model: &Store, o: ObjId) -> Result<(), AllocError>
     ensures { OnOk result (text.new ≡ text.old ++ root_text model.now o) }
 {
     text.push_ascii("/")?;
@@ -134,7 +135,7 @@ fn climbed(model: &Model, o: ObjId) -> Result<Climb, AllocError>
     ensures top { IfOk result (λ climb. climb.top ≡ top_within (suc (length model.now.objects)) model.now o) }
     ensures steps { IfOk result (λ climb. reverse climb.steps.items ≡ steps_within (suc (length model.now.objects)) model.now o) }
 {
-    let mut steps = Vec::new(model.alloc());
+    let mut steps = Vec::new(model.store().alloc());
     let mut top = o;
     for level in 0..model.given() as usize + 1 {
         let Some((from, feature)) = model.holder(top) else {
@@ -162,9 +163,9 @@ impl Model {
             return Err(StoreRefusal::NoObject);
         }
         let Climb { top, steps } = climbed(self, o)?;
-        let mut text = Text::new(self.alloc());
-        push_root(&mut text, self, top)?;
-        push_steps(&mut text, self, steps)?;
+        let mut text = Text::new(self.store().alloc());
+        push_root(&mut text, self.store(), top)?;
+        push_steps(&mut text, self.store(), steps)?;
         Ok(text)
     }
 }

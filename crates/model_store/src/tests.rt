@@ -1,11 +1,11 @@
 // A metamodel of nodes, built by hand, and the calls of its models.
-ghost use Rattle.std.specs.Prelude.{◌≡◌, [], ◌∷◌, ◌++◌, IfOk, IsTrue, true, false, Some, None, length};
+ghost use Rattle.std.specs.Prelude.{◌≡◌, [], ◌∷◌, ◌++◌, IfOk, IsTrue, true, false, Some, None, codes, length};
 ghost use Rattle.ecore_meta.specs.Valid.{IsMetamodel};
 ghost use Rattle.model_store.specs.Order.{HasNoCycle};
 
 use crate::model::Model;
 use crate::order::contents;
-use crate::parts::{Cellv, Slot};
+use crate::parts::{Cellv, Object, Slot};
 use crate::refusal::StoreRefusal;
 use atl_base::numbers::{ClassId, FeatId, ObjId};
 use atl_base::text::{Text, TextRefusal};
@@ -163,6 +163,48 @@ fn empty(alloc: Global) -> Result<Model, TextRefusal> {
     }
 }
 
+// One class, without features.
+fn things(alloc: Global) -> Result<Parts, TextRefusal>
+    ensures { IfOk result (λ p. IsMetamodel p × (p.classes ≡ record { name = codes "Thing"; «package» = 0; is_abstract = false; supers = []; own = [] } ∷ [])) }
+{
+    let packages = package(alloc, "Things")?;
+    let classes = with_class(alloc, Items::new(alloc), "Thing", &[], &[])?;
+    Ok(Parts {
+        packages,
+        classes,
+        features: Items::new(alloc),
+        enums: Items::new(alloc),
+        skipped: Items::new(alloc),
+    })
+}
+
+// Two objects without slots.
+fn bare_objects(alloc: Global) -> Result<Vec<Object>, AllocError>
+    ensures { IfOk result (λ list. list.items ≡ record { class = record { 0 = 0 }; slots = [] } ∷ record { class = record { 0 = 0 }; slots = [] } ∷ []) }
+{
+    let mut list = Vec::new(alloc);
+    list.push(Object {
+        class: ClassId(0),
+        slots: Items::new(alloc),
+    })?;
+    list.push(Object {
+        class: ClassId(0),
+        slots: Items::new(alloc),
+    })?;
+    Ok(list)
+}
+
+// The model of two things, of which the second is the first root.
+fn two_things(alloc: Global) -> Result<Model, TextRefusal> {
+    let meta = Metamodel::new(alloc, things(alloc)?)?;
+    let Ok(meta) = Rc::new(alloc, meta) else {
+        return Err(TextRefusal::Memory);
+    };
+    let objects = bare_objects(alloc)?;
+    let roots = Vec::from_slice(alloc, &[ObjId(1), ObjId(0)])?;
+    Ok(Model::from_parts(alloc, meta, objects, roots)?)
+}
+
 // A new object, where there is such a class.
 fn make(model: &mut Model, class: u32) -> Result<ObjId, StoreRefusal> {
     let concrete = match model.meta().classes().get(class as usize) {
@@ -216,7 +258,7 @@ fn rises(model: &Model) -> Result<bool, AllocError>
     ensures { IfOk result (λ answer. IsTrue answer → HasNoCycle model.now) }
 {
     for n in 0..model.given() {
-        for q in &contents(model, ObjId(n))? {
+        for q in &contents(model.store(), ObjId(n))? {
             if q.0 <= n {
                 return Ok(false);
             }
@@ -265,6 +307,41 @@ fn paths_lead_from_a_root(rt: HostRuntime) -> Result<(), Fail> {
 }
 
 #[test]
+fn fragments_name_objects(rt: HostRuntime) -> Result<(), Fail> {
+    let alloc = rt.alloc();
+    let mut model = empty(alloc)?;
+    let a = make(&mut model, 0)?;
+    let b = make(&mut model, 1)?;
+    let c = make(&mut model, 0)?;
+    assert_eq!(rt; model.at_path("/2"), Some(c));
+    assert_eq!(rt; model.at_path("/02"), Some(c));
+    for fragment in ["", "/", "2", "/3", "/-1", "/2/"] {
+        assert_eq!(rt; model.at_path(fragment), None, "{fragment}");
+    }
+    model.write(a, KIDS, &objects(alloc, &[c, b])?)?;
+    model.write(b, HEART, &objects(alloc, &[c])?)?;
+    assert_eq!(rt; model.at_path("/"), Some(a));
+    assert_eq!(rt; model.at_path("/0"), Some(a));
+    assert_eq!(rt; model.at_path("//@kids.0"), Some(b));
+    assert_eq!(rt; model.at_path("//@kids.00/@heart"), Some(c));
+    for fragment in [
+        "//",
+        "//@kids",
+        "//@kids.",
+        "//@kids.1",
+        "//@kids.0.0",
+        "//@kids.18446744073709551616",
+        "//@kids.0/@heart.0",
+        "//@kids.0/@up",
+        "//kids.0",
+        "//@heart",
+    ] {
+        assert_eq!(rt; model.at_path(fragment), None, "{fragment}");
+    }
+    Ok(())
+}
+
+#[test]
 fn objects_are_numbered(rt: HostRuntime) -> Result<(), Fail> {
     let alloc = rt.alloc();
     let mut model = empty(alloc)?;
@@ -277,6 +354,23 @@ fn objects_are_numbered(rt: HostRuntime) -> Result<(), Fail> {
     assert_eq!(rt; model.class(ObjId(2)), None);
     assert_eq!(rt; model.roots(), [a, b].as_slice());
     assert_eq!(rt; model.meta().classes().len(), 2);
+    Ok(())
+}
+
+#[test]
+fn parts_make_a_model(rt: HostRuntime) -> Result<(), Fail> {
+    let mut model = two_things(rt.alloc())?;
+    assert_eq!(rt; model.given(), 2);
+    assert_eq!(rt; model.roots(), [ObjId(1), ObjId(0)].as_slice());
+    assert_eq!(rt; model.class(ObjId(1)), Some(ClassId(0)));
+    assert_eq!(rt;
+        model.get(ObjId(1), NAME).err(),
+        Some(StoreRefusal::NoFeature)
+    );
+    assert_eq!(rt; model.container(ObjId(0)), None);
+    assert_eq!(rt; model.at_path("/0"), Some(ObjId(1)));
+    assert_eq!(rt; make(&mut model, 0)?, ObjId(2));
+    model.valid();
     Ok(())
 }
 

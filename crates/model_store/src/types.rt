@@ -6,8 +6,8 @@ ghost use Rattle.model_store.specs.Valid.{IsOfKind, IsOfType, Fits};
 ghost use Rattle.model_store.specs.Order.{IsOf};
 
 use crate::lookups::{feature, is_many};
-use crate::model::Model;
 use crate::parts::Cellv;
+use crate::store::Store;
 use atl_base::numbers::{ClassId, FeatId, ObjId};
 use ecore_meta::metamodel::Metamodel;
 use ecore_meta::parts::FeatKind;
@@ -23,7 +23,7 @@ fn has_literal(meta: &Metamodel, e: u32, l: u32) -> bool
 }
 
 // Whether an object is of a class.
-pub(crate) fn is_of(model: &Model, class: ClassId, q: ObjId) -> bool
+pub(crate) fn is_of(model: &Store, class: ClassId, q: ObjId) -> bool
     requires { class.0 < length model.now.meta.classes }
     ensures { IsTrue result ↔ IsOf model.now class q }
 {
@@ -34,7 +34,7 @@ pub(crate) fn is_of(model: &Model, class: ClassId, q: ObjId) -> bool
 }
 
 // Whether a value is of a type.
-fn is_of_kind(model: &Model, kind: FeatKind, value: &Cellv) -> bool
+fn is_of_kind(model: &Store, kind: FeatKind, value: &Cellv) -> bool
     requires { IsKindWithin model.now.meta kind }
     ensures { IsTrue result ↔ IsOfKind model.now kind value.now }
 {
@@ -55,7 +55,7 @@ fn is_of_kind(model: &Model, kind: FeatKind, value: &Cellv) -> bool
 }
 
 // Whether a value is of a feature's type.
-fn is_of_type(model: &Model, f: FeatId, value: &Cellv) -> bool
+fn is_of_type(model: &Store, f: FeatId, value: &Cellv) -> bool
     ensures { IsTrue result ↔ IsOfType model.now f value.now }
 {
     match feature(model.meta(), f) {
@@ -65,14 +65,14 @@ fn is_of_type(model: &Model, f: FeatId, value: &Cellv) -> bool
 }
 
 // Whether all are.
-fn are_of_type(model: &Model, f: FeatId, values: &[Cellv]) -> bool
+fn are_of_type(model: &Store, f: FeatId, values: &[Cellv]) -> bool
     ensures { IsTrue result ↔ All (IsOfType model.now f) values.now }
 {
     values.iter().all(|value| is_of_type(model, f, value))
 }
 
 // Whether values may be written to a feature.
-pub(crate) fn fits(model: &Model, f: FeatId, values: &[Cellv]) -> bool
+pub(crate) fn fits(model: &Store, f: FeatId, values: &[Cellv]) -> bool
     ensures { IsTrue result ↔ Fits model.now f values.now }
 {
     (is_many(model.meta(), f) || values.len() <= 1) && are_of_type(model, f, values)

@@ -1,17 +1,10 @@
-use Rattle.std.proofs.Common.{◌<◌, length, sym, ap, subst, ◌∙◌, rules}
-use Rattle.model_store.specs.Contents.{IsShaped, holding_place}
-use Rattle.model_store.proofs.Holders.{holder_more, shaped_at}
+use Rattle.std.proofs.Common.{◌≡◌, ◌≤◌, length, sym, ap, ◌∙◌, arith, rules}
+use Rattle.model_store.specs.Contents.{Contents, holder}
+use Rattle.model_store.proofs.SameHolders.{no_holder}
 use Rattle.model_store.proofs.model.Model.holder.Goals as goal
 
-pub holding_place-requires : goal.holding_place-requires
-holding_place-requires c = λ object is.
-    let within : c.loop-at.at < length c.self.inside.objects.items = search rules in
-    subst (λ m. IsShaped m object) (sym c.deref.ensures)
-    (shaped_at c.self.inside.meta.value c.self.inside.objects.items c.loop-at.at c.index.result.now object c.self.invariant.2 within c.index.ensures is)
-
-pub loop-at-preserved : goal.loop-at-preserved
-loop-at-preserved c =
-    let within : c.loop-at.at < length c.self.inside.objects.items = search rules in
-    holder_more c.self.inside.meta.value c.args.p c.self.inside.objects.items c.loop-at.at c.index.result.now c.holding_place.result within c.index.ensures
-    (c.holding_place.ensures ∙ ap (λ m. holding_place m c.args.p c.index.result.now) c.deref.ensures) c.in_default.is
-    ∙ c.loop-at.invariant
+pub returns-in_err-get : goal.returns-in_err-get
+returns-in_err-get c =
+    let past : length c.self.inside.holders.items ≤ c.args.p.0 = search rules in
+    let beyond : length c.self.inside.store.objects ≤ c.args.p.0 = omega (arith, past, c.self.invariant.1.size) in
+    c.from_residual.ensures ∙ sym (no_holder c.self.inside.store c.self.invariant.0 c.args.p beyond) ∙ ap (λ (v : Contents). holder v c.args.p) c.self.view_is

@@ -3,7 +3,7 @@ use Rattle.std.proofs.lemmas.List.{length-map}
 use Rattle.model_store.specs.declared.parts.Object.{Object}
 use Rattle.model_store.specs.Contents.{object_count, AreShaped}
 use Rattle.model_store.proofs.Updates.{counted_all}
-use Rattle.model_store.proofs.model.Model.from_parts.Goals as goal
+use Rattle.model_store.proofs.store.Store.from_parts.Goals as goal
 
 pub invariant_of-result : goal.invariant_of-result
 invariant_of-result c =

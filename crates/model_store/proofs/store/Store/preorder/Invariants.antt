@@ -1,7 +1,7 @@
 use Rattle.std.proofs.Common.{◌≡◌, ◌++◌, reverse, length}
 use Rattle.std.specs.List.{flat_map}
 use Rattle.model_store.specs.Order.{tree, preorder}
-use Rattle.model_store.proofs.model.Model.preorder.Given as goal
+use Rattle.model_store.proofs.store.Store.preorder.Given as goal
 
 -- the order so far, and the trees on the stack
 abbrev pub invariant-walk : goal.invariant-walk

@@ -4,7 +4,7 @@ use Rattle.ecore_meta.specs.declared.parts.Parts.{Parts}
 use Rattle.model_store.specs.declared.parts.Object.{Object}
 use Rattle.model_store.specs.Contents.{Contents, HasPlace, object_at, object_count, place_in, set_slot, AreShaped}
 use Rattle.model_store.proofs.Updates.{set_slot_is, change_is, shaped_change, counted_change, length_change}
-use Rattle.model_store.proofs.model.Model.put.Goals as goal
+use Rattle.model_store.proofs.store.Store.put.Goals as goal
 
 pub invariant_of-self : goal.invariant_of-self
 invariant_of-self c =

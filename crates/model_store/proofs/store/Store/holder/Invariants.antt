@@ -1,6 +1,6 @@
 use Rattle.std.proofs.Common.{◌≡◌, drop}
 use Rattle.model_store.specs.Contents.{holder_from}
-use Rattle.model_store.proofs.model.Model.holder.Given as goal
+use Rattle.model_store.proofs.store.Store.holder.Given as goal
 
 -- the objects that are left have the same answer
 abbrev pub invariant-loop-at : goal.invariant-loop-at

@@ -2,7 +2,7 @@ use Rattle.std.proofs.Common.{◌≡◌, ◌<◌, ◌^◌, List, length, sym, su
 use Rattle.ecore_meta.specs.declared.parts.Parts.{Parts}
 use Rattle.model_store.specs.declared.parts.Object.{Object}
 use Rattle.model_store.specs.Contents.{object_count, AreShaped}
-use Rattle.model_store.proofs.model.Model.copy.Goals as goal
+use Rattle.model_store.proofs.store.Store.copy.Goals as goal
 
 pub invariant_of-result : goal.invariant_of-result
 invariant_of-result c =

@@ -1,6 +1,6 @@
 use Rattle.std.proofs.Common.{take}
 use Rattle.model_store.specs.Order.{AreThose, IsOf}
-use Rattle.model_store.proofs.model.Model.extent.Given as goal
+use Rattle.model_store.proofs.store.Store.extent.Given as goal
 
 -- those of the objects so far
 abbrev pub invariant-loop-o : goal.invariant-loop-o
