@@ -24,3 +24,6 @@ pub mod Fragments
 pub mod Capped
 pub mod WordsOf
 pub mod WordCases
+pub mod Reaching
+pub mod Places
+pub mod SeenNames

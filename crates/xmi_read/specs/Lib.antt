@@ -10,3 +10,6 @@ pub mod Cuts
 pub mod Targets
 pub mod Answers
 pub mod DataTypes
+pub mod Tables
+pub mod Walks
+pub mod FoundFaults

@@ -110,8 +110,8 @@ pub(crate) fn own_type<'a>(element: &Element) -> DataType<'a>
     }
 }
 
-// The text of a literal: its own, else its name.
-fn literal_text<'a>(entry: &Entry<'a>) -> &'a str
+/// The text of a literal: its own, else its name.
+pub(crate) fn literal_text<'a>(entry: &Entry<'a>) -> &'a str
     ensures { result.now ≡ literal_text_of (entry_of entry.now) }
 {
     match given("literal", entry.element) {
@@ -157,7 +157,7 @@ pub(crate) fn foreign_type<'a>(word: &[u8]) -> DataType<'a>
     plain(DataKind::Opaque)
 }
 
-fn is_literal(role: Role) -> bool
+pub(crate) fn is_literal(role: Role) -> bool
     ensures { result ≡ is_literal_role role }
 {
     matches!(role, Role::Literal)
