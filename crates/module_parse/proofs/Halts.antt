@@ -196,4 +196,3 @@ too_deep_all Refuses t r more p k e h = absurd (subst IsExpected h tt)
     IsExpected (Expected r) = Unit {0}
     IsExpected u = ⊥
 too_deep_all (TooDeep q) t r more p k e h = h
-

@@ -23,29 +23,31 @@ StopsAt b front (t ∷ rest) = (more : List Mark) (m : Module) → IsModule b (f
 abbrev pub NoneEnds : Bool → List Mark → Type 0
 NoneEnds b front = (m : Module) → IsModule b front m → ⊥
 
--- in no module of the grammar that begins so does an expression begin there that stands too deep
+-- in each module of the grammar, whatever its depth, that begins so, the first expression that stands too deep begins behind
+-- the front
 abbrev pub IsShallow : List Mark → Type 0
 IsShallow front = (more : List Mark) (w : WrittenModule) (k : ℕ) → ModuleFits false w → module_marks w ≡ front ++ more → deep_in w ≡ Some k → length front ≤ k
 
--- these marks end, or begin with the first of the rest
+-- no marks, or some of which the first is the first of the rest
 abbrev pub Matches : List Mark → List Mark → Type 0
 Matches [] rest = Unit {0}
 Matches (t ∷ more) [] = ⊥
 Matches (t ∷ more) (u ∷ rest) = t ≡ u
 
--- the first expression that stands too deep begins behind the front
+-- the first expression that stands too deep begins just behind the front
 abbrev pub IsDeepBehind : List Mark → WrittenModule → Type 0
 IsDeepBehind front w = deep_in w ≡ Some (length front)
 
--- in some module of the grammar, whatever its depth, that begins so the first that stands too deep begins with the mark
+-- some module of the grammar, whatever its depth, begins with the front and the mark, and with that mark begins the first
+-- expression in it that stands too deep
 abbrev pub HasDeep : List Mark → Mark → Type 0
 HasDeep front t = (more : List Mark) × (w : WrittenModule) × ModuleFits false w × (module_marks w ≡ front ++ (t ∷ more)) × IsDeepBehind front w
 
--- and so it is in each that begins so and, where it goes on, does so with the first of the rest
+-- and so it is in each that begins with both, and then ends or goes on with the first of the rest
 abbrev pub AllDeep : List Mark → Mark → List Mark → Type 0
 AllDeep front t rest = (more : List Mark) (w : WrittenModule) → ModuleFits false w → module_marks w ≡ front ++ (t ∷ more) → Matches more rest → IsDeepBehind front w
 
--- within the depth there is none
+-- within the depth there is no such module
 abbrev pub NoneShallow : List Mark → Mark → List Mark → Type 0
 NoneShallow front t rest = (more : List Mark) (m : Module) → Matches more rest → IsModule true (front ++ (t ∷ more)) m → ⊥
 

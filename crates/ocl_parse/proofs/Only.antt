@@ -5,8 +5,7 @@ use Rattle.std.proofs.lemmas.List.{append-nil}
 use Rattle.atl_base.specs.declared.place.Place.{Place}
 use Rattle.atl_tree.specs.declared.expr.Expr.{Expr}
 use Rattle.ocl_parse.specs.Symbols.{Lexeme}
-use Rattle.ocl_parse.specs.Grammar.{Written, spelt, tree_of, IsExpr}
-use Rattle.ocl_parse.specs.TooDeep.{deep_after}
+use Rattle.ocl_parse.specs.Grammar.{tree_of, IsExpr}
 use Rattle.ocl_parse.specs.Machine.{Read, Expected, Deep}
 use Rattle.ocl_parse.specs.Laws.{StopsAt, Matches, Tells}
 use Rattle.ocl_parse.proofs.Found.{cuts, head_or, tail_of}

@@ -19,29 +19,30 @@ StopsAt b front (t ∷ rest) = (more : List Lexeme) (e : Expr) → IsExpr b (fro
 abbrev pub NoneEnds : Bool → List Lexeme → Type 0
 NoneEnds b front = (e : Expr) → IsExpr b front e → ⊥
 
--- in no expression of the grammar that begins so does one begin there that stands too deep
+-- in each expression of the grammar, whatever its depth, that begins so, the first that stands too deep begins behind the front
 abbrev pub IsShallow : List Lexeme → Type 0
 IsShallow front = (more : List Lexeme) (w : Written) (k : ℕ) → Fits false 0 0 w → spelt w ≡ front ++ more → deep_after 0 w ≡ Some k → length front ≤ k
 
--- these symbols end, or begin with the first of the rest
+-- no symbols, or some of which the first is the first of the rest
 abbrev pub Matches : List Lexeme → List Lexeme → Type 0
 Matches [] rest = Unit {0}
 Matches (t ∷ more) [] = ⊥
 Matches (t ∷ more) (u ∷ rest) = t ≡ u
 
--- the first expression that stands too deep begins behind the front
+-- the first expression that stands too deep begins just behind the front
 abbrev pub IsDeepBehind : List Lexeme → Written → Type 0
 IsDeepBehind front w = deep_after 0 w ≡ Some (length front)
 
--- in some expression of the grammar, whatever its depth, that begins so the first that stands too deep begins with the symbol
+-- some expression of the grammar, whatever its depth, begins with the front and the symbol, and with that symbol begins the
+-- first in it that stands too deep
 abbrev pub HasDeep : List Lexeme → Lexeme → Type 0
 HasDeep front t = (more : List Lexeme) × (w : Written) × Fits false 0 0 w × (spelt w ≡ front ++ (t ∷ more)) × IsDeepBehind front w
 
--- and so it is in each that begins so and, where it goes on, does so with the first of the rest
+-- and so it is in each that begins with both, and then ends or goes on with the first of the rest
 abbrev pub AllDeep : List Lexeme → Lexeme → List Lexeme → Type 0
 AllDeep front t rest = (more : List Lexeme) (w : Written) → Fits false 0 0 w → spelt w ≡ front ++ (t ∷ more) → Matches more rest → IsDeepBehind front w
 
--- within the depth there is none
+-- within the depth there is no such expression
 abbrev pub NoneShallow : List Lexeme → Lexeme → List Lexeme → Type 0
 NoneShallow front t rest = (more : List Lexeme) (e : Expr) → Matches more rest → IsExpr true (front ++ (t ∷ more)) e → ⊥
 
