@@ -24,3 +24,14 @@ pub mod Fragments
 pub mod Capped
 pub mod WordsOf
 pub mod WordCases
+pub mod Groups
+pub mod Runs
+pub mod TextWords
+pub mod TextsOf
+pub mod FaultTexts
+pub mod Sizes
+pub mod RowsFit
+pub mod ClassParts
+pub mod Offences
+pub mod FeatureParts
+pub mod ClassLoop

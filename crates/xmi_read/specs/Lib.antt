@@ -10,3 +10,7 @@ pub mod Cuts
 pub mod Targets
 pub mod Answers
 pub mod DataTypes
+pub mod Tables
+pub mod Groups
+pub mod Texts
+pub mod Sizes

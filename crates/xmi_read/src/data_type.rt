@@ -157,7 +157,7 @@ pub(crate) fn foreign_type<'a>(word: &[u8]) -> DataType<'a>
     plain(DataKind::Opaque)
 }
 
-fn is_literal(role: Role) -> bool
+pub(crate) fn is_literal(role: Role) -> bool
     ensures { result ≡ is_literal_role role }
 {
     matches!(role, Role::Literal)

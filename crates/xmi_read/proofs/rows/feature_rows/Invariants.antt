@@ -1,0 +1,11 @@
+use Rattle.std.proofs.Common.{◌≡◌, ◌++◌, ◌≤◌, drop}
+use Rattle.xmi_read.specs.Rows.{feature_rows, feature_rows_from}
+use Rattle.xmi_read.specs.Entries.{entries_of}
+use Rattle.xmi_read.specs.Tables.{feature_rows_of}
+use Rattle.xmi_read.proofs.rows.feature_rows.Given as goal
+
+abbrev pub invariant-loop-i : goal.invariant-loop-i
+invariant-loop-i l = record {
+  told : feature_rows_of l.rows.items ++ feature_rows_from (entries_of l.file) l.classes (entries_of (drop l.i l.file)) ≡ feature_rows (entries_of l.file);
+  classes : l.classes ≤ l.i;
+}
