@@ -35,3 +35,7 @@ pub mod ClassParts
 pub mod Offences
 pub mod FeatureParts
 pub mod ClassLoop
+pub mod Reaching
+pub mod Places
+pub mod SeenNames
+pub mod PartsMade

@@ -52,7 +52,7 @@ module _ (file : List Entry) where
       (λ (h : length (super_numbers file) ≤ c). absurd (empty s (subst (λ l. Contains l s) (get_or_past (super_numbers file) c [] h) m)))
       (cases_lt c (length (super_numbers file)))
 
-  number_within : (c s : ℕ) → Contains (get_or (super_numbers file) c []) s → s < length (super_numbers file)
+  pub number_within : (c s : ℕ) → Contains (get_or (super_numbers file) c []) s → s < length (super_numbers file)
   number_within c s m = subst (λ n. s < n) (sym (super_count ∙ class_count file)) (row_within c s m)
 
   -- a supertype by its number

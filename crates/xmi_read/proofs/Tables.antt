@@ -14,7 +14,7 @@ use Rattle.xmi_read.specs.Parts.{class_no, package_of, class_of, classes_from, f
 use Rattle.xmi_read.proofs.Splits.{rows, count-push, count-push_other, length-rows}
 use Rattle.xmi_read.proofs.Tests.{false-true}
 
-count-next : (of : Role → Bool) (b : List Entry) (e : Entry) → count of (b ++ (e ∷ [])) ≡ (if of e.role then suc (count of b) else count of b)
+pub count-next : (of : Role → Bool) (b : List Entry) (e : Entry) → count of (b ++ (e ∷ [])) ≡ (if of e.role then suc (count of b) else count of b)
 count-next of b e = by (of e.role) refl
   where
     by : (t : Bool) → of e.role ≡ t → count of (b ++ (e ∷ [])) ≡ (if t then suc (count of b) else count of b)

@@ -10,23 +10,13 @@ use Rattle.ecore_meta.specs.Names.{is_plain_name}
 use Rattle.ecore_meta.specs.declared.parts.FeatKind.{FeatKind}
 use Rattle.ecore_meta.specs.declared.parts.FeatKind.TheVariants.{Int, Truth, Enum}
 use Rattle.ecore_meta.specs.Valid.{number_of}
+pub use Rattle.xmi_read.specs.declared.fault.Kind.{Kind}
+pub use Rattle.xmi_read.specs.declared.fault.Kind.TheVariants.{NotEcore, SubPackage as IsSubPackage, Generic, NoName, TwiceName, OtherFile, NoType, SuperCycle, BadOpposite, BadNumber}
 use Rattle.xmi_read.specs.Markup.{given, flag, is_bad_flag, has_text, sub_elements}
 use Rattle.xmi_read.specs.Outline.{Entry, Role, Around, Package, Class, Enum as EnumRole, Data, Literal, Attribute as AttributeRole, Reference, SkippedAttribute, SkippedReference, Super, TypeOf, SubPackage, Stray, is_generic, is_package_role, is_class_role, is_enum_role, is_classifier_role, is_feature_role, count, name_of}
 use Rattle.xmi_read.specs.References.{class_named, feature_named, Own, Kept, Skips}
 use Rattle.xmi_read.specs.Types.{literals_of, literal_text}
 use Rattle.xmi_read.specs.Rows.{Typed, ByData, ByClass, Foreign, Untyped, typed, href, super_words, child_typed, is_own_super, super_numbers, twice_seen, type_behind, feature_rows, FeatureRow, foreign_word}
-
-pub data Kind : Type 0 where
-  NotEcore : Kind
-  IsSubPackage : Kind
-  Generic : Kind
-  NoName : Kind
-  TwiceName : Kind
-  OtherFile : Kind
-  NoType : Kind
-  SuperCycle : Kind
-  BadOpposite : Kind
-  BadNumber : Kind
 
 -- a kind and its value
 abbrev pub Fault : Type 0

@@ -14,3 +14,5 @@ pub mod Tables
 pub mod Groups
 pub mod Texts
 pub mod Sizes
+pub mod Walks
+pub mod FoundFaults

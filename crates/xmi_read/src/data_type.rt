@@ -110,8 +110,8 @@ pub(crate) fn own_type<'a>(element: &Element) -> DataType<'a>
     }
 }
 
-// The text of a literal: its own, else its name.
-fn literal_text<'a>(entry: &Entry<'a>) -> &'a str
+/// The text of a literal: its own, else its name.
+pub(crate) fn literal_text<'a>(entry: &Entry<'a>) -> &'a str
     ensures { result.now ≡ literal_text_of (entry_of entry.now) }
 {
     match given("literal", entry.element) {
