@@ -11,5 +11,8 @@ pub mod Targets
 pub mod Answers
 pub mod DataTypes
 pub mod Tables
+pub mod Groups
+pub mod Texts
+pub mod Sizes
 pub mod Walks
 pub mod FoundFaults

@@ -1,0 +1,95 @@
+// A metamodel from its document.
+ghost use Rattle.std.specs.Prelude.{◌≡◌, ◌≤◌, length, Some, IfOk};
+ghost use Rattle.atl_base.specs.XmlText.{IsXmlText};
+ghost use Rattle.ecore_meta.specs.Valid.{IsMetamodel};
+ghost use Rattle.xmi_read.specs.Outline.{outline as outline_of};
+ghost use Rattle.xmi_read.specs.Parts.{parts_of as parts_of_file};
+ghost use Rattle.xmi_read.specs.Entries.{entries_of};
+ghost use Rattle.xmi_read.specs.Texts.{AreTexts};
+ghost use Rattle.xmi_read.specs.FoundFaults.{fault_of};
+ghost use Rattle.xmi_read.specs.Answers.{IsTold, IsMetaAnswer};
+
+use crate::classes::classes;
+use crate::enums::enums;
+use crate::fault::{FoundFault, Kind};
+use crate::features::features;
+use crate::first_fault::first_fault;
+use crate::known_text::know_texts;
+use crate::outline::{Entry, outline};
+use crate::packages::packages;
+use crate::reach::super_numbers;
+use crate::refusal::MetaRefusal;
+use crate::rows::{class_rows, feature_rows};
+use crate::skipped::skipped;
+use crate::text::text_of;
+use doc_text::tree::Doc;
+use ecore_meta::metamodel::Metamodel;
+use ecore_meta::parts::Parts;
+use std::alloc::{AllocError, Global};
+
+// The five lists that a file stands for.
+fn parts_of(alloc: Global, file: &[Entry<'_>]) -> Result<Parts, AllocError>
+    requires size { length file.now ≤ 4294967294 }
+    requires texts { AreTexts (entries_of file.now) }
+    ensures { IfOk result (λ parts. parts ≡ parts_of_file (entries_of file.now)) }
+{
+    let rows = class_rows(alloc, file)?;
+    let supers = super_numbers(alloc, file, &rows)?;
+    let declared = feature_rows(alloc, file)?;
+    Ok(Parts {
+        packages: packages(alloc, file)?,
+        classes: classes(alloc, file, &rows, &supers, &declared)?,
+        features: features(alloc, file, &declared)?,
+        enums: enums(alloc, file)?,
+        skipped: skipped(alloc, file)?,
+    })
+}
+
+// What is told of a fault.
+fn refusal_of(alloc: Global, found: &FoundFault<'_>) -> MetaRefusal
+    requires { IsXmlText found.now.fault.value.now }
+    ensures { IsTold (Some (fault_of found.now.fault, found.now.place)) result }
+{
+    let place = found.place;
+    match text_of(alloc, found.fault.value) {
+        Ok(value) => match found.fault.kind {
+            Kind::NotEcore => MetaRefusal::NotEcore(value, place),
+            Kind::SubPackage => MetaRefusal::SubPackage(value, place),
+            Kind::Generic => MetaRefusal::Generic(value, place),
+            Kind::NoName => MetaRefusal::NoName(value, place),
+            Kind::TwiceName => MetaRefusal::TwiceName(value, place),
+            Kind::OtherFile => MetaRefusal::OtherFile(value, place),
+            Kind::NoType => MetaRefusal::NoType(value, place),
+            Kind::SuperCycle => MetaRefusal::SuperCycle(value, place),
+            Kind::BadOpposite => MetaRefusal::BadOpposite(value, place),
+            Kind::BadNumber => MetaRefusal::BadNumber(value, place),
+        },
+        Err(AllocError) => MetaRefusal::Memory,
+    }
+}
+
+// The metamodel of a file in which nothing is wrong.
+fn metamodel_of(alloc: Global, file: &[Entry<'_>]) -> Result<Metamodel, AllocError>
+    requires size { length file.now ≤ 4294967294 }
+    requires texts { AreTexts (entries_of file.now) }
+    requires valid { IsMetamodel (parts_of_file (entries_of file.now)) }
+    ensures { IfOk result (λ meta. meta ≡ parts_of_file (entries_of file.now)) }
+{
+    let parts = parts_of(alloc, file)?;
+    Metamodel::new(alloc, parts)
+}
+
+/// The metamodel that a document stands for, or the first thing that is wrong in it, in document order. The outline is
+/// short enough where the document has at most 4,294,967,294 elements and attributes.
+pub fn read_metamodel(alloc: Global, doc: &Doc) -> Result<Metamodel, MetaRefusal>
+    requires { length (outline_of doc.now) ≤ 4294967294 }
+    ensures { IsMetaAnswer doc.now result }
+{
+    let entries = outline(alloc, doc)?;
+    let file = entries.as_slice();
+    know_texts(file);
+    match first_fault(alloc, file)? {
+        Some(found) => Err(refusal_of(alloc, &found)),
+        None => Ok(metamodel_of(alloc, file)?),
+    }
+}
