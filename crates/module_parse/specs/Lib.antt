@@ -8,3 +8,5 @@ pub mod Writing
 pub mod Printed
 pub mod Reading
 pub mod Places
+pub mod Pending
+pub mod Fragments
