@@ -23,3 +23,10 @@ pub mod Readings
 pub mod Symbols
 pub mod Hands
 pub mod Rows
+pub mod Escaping
+pub mod Opened
+pub mod Layers
+pub mod StatTexts
+pub mod Fragmented
+pub mod Digits
+pub mod Heads

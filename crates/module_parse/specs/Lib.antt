@@ -9,3 +9,5 @@ pub mod Writing
 pub mod Printed
 pub mod Reading
 pub mod Places
+pub mod Pending
+pub mod Fragments

@@ -3,3 +3,4 @@
 
 pub mod keyword;
 pub mod laws;
+pub mod print;

@@ -1,0 +1,16 @@
+use Rattle.std.proofs.Common.{sym, ap, ◌∙◌, ◌++◌, ◌∷◌, arith, codes}
+use Rattle.std.specs.Prelude.{reverse, false}
+use Rattle.std.specs.List.{flat_map}
+use Rattle.module_parse.specs.Pending.{begun, singles, extras, pending, expr_text, kind_text, stat_text, spelling}
+use Rattle.module_parse.specs.Printed.{name_text}
+use Rattle.module_parse.specs.Writing.{expr_written, kind_written, whole_written, here}
+use Rattle.module_parse.proofs.Opened.{OnOk-then, let_says, iterate_says, kind_coll_says, spelling_says}
+use Rattle.module_parse.proofs.StatTexts.{value_says, assign_says, if_says, else_says, for_says}
+use Rattle.module_parse.proofs.print.expression.open_let.Goals as goal
+
+pub returns : goal.returns
+returns c = OnOk-then c.push_all-2.result c.push_all-2.ensures (λ e. let m = c.in_ok-push_all.ensures in record {
+  text = ap pending e ∙ ap (λ l. codes "let" ++ (32 ∷ (name_text c.args.variable.now.text ++ (32 ∷ (58 ∷ (32 ∷ (kind_text c.args.kind.now ++ l))))))) (ap pending m)
+      ∙ let_says c.args.variable.now.text (kind_written c.args.kind.now) (expr_written c.args.value.now 0) (expr_written c.args.body.now 0) (pending (reverse c.args.stack.now.items));
+  less = omega (arith, ap singles e, ap extras e, ap singles m, ap extras m);
+})

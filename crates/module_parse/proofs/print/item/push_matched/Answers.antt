@@ -1,0 +1,14 @@
+use Rattle.std.proofs.Common.{◌≡◌, ◌∷◌, [], ◌++◌, ◌==◌, length, sym, ap, ◌∙◌, append_assoc, Some, true, false, codes}
+use Rattle.std.specs.List.{flat_map}
+use Rattle.module_parse.specs.Grammar.{NoStart, Entry, End, context_marks, signature_marks, bracketed_marks, list_marks, to_marks, using_marks, guard_marks, sources_marks, block_marks, rule_marks}
+use Rattle.module_parse.specs.Writing.{here, context_written, signature_written, sources_written, bracketed_written, list_written, to_written, using_written, guard_written, block_written, by_sort}
+use Rattle.module_parse.specs.Printed.{name_text, line_text}
+use Rattle.module_parse.specs.Pending.{spaced, kind_text, expr_text, stat_text}
+use Rattle.module_parse.specs.Fragments.{token, comma, params_text, local_text, bind_text, target_text, head_text, rest_text, first_line, second_line}
+use Rattle.module_parse.proofs.Opened.{OnOk-then, joined}
+use Rattle.module_parse.proofs.Fragmented.{matched_line}
+use Rattle.module_parse.proofs.print.item.push_matched.Goals as goal
+
+pub returns : goal.returns
+returns c = OnOk-then c.push_rest.result c.push_rest.ensures (λ e. joined _ _ _ (((((head_text c.args.rule.now) ++ (token (codes "{") [])) ++ (token (codes "from") [])) ++ (spaced (sources_marks (sources_written c.args.rule.now.sources)))) ++ (spaced (guard_marks (guard_written c.args.rule.now.guard)))) (rest_text c.args.rule.now) (joined _ _ _ ((((head_text c.args.rule.now) ++ (token (codes "{") [])) ++ (token (codes "from") [])) ++ (spaced (sources_marks (sources_written c.args.rule.now.sources)))) (spaced (guard_marks (guard_written c.args.rule.now.guard))) (joined _ _ _ (((head_text c.args.rule.now) ++ (token (codes "{") [])) ++ (token (codes "from") [])) (spaced (sources_marks (sources_written c.args.rule.now.sources))) (joined _ _ _ ((head_text c.args.rule.now) ++ (token (codes "{") [])) (token (codes "from") []) (joined _ _ _ (head_text c.args.rule.now) (token (codes "{") []) c.in_ok-push_head.ensures c.in_ok-push_sign.ensures) c.in_ok-push_keyword.ensures) (rw c.as_slice.ensures at c.in_ok-push_sources.ensures)) c.in_ok-push_guard.ensures) e
+    ∙ ap (λ l. c.args.out.now ++ l) (sym (matched_line c.args.rule.now)))

@@ -1,0 +1,15 @@
+use Rattle.std.proofs.Common.{◌≡◌, ◌∷◌, [], ◌++◌, ◌==◌, length, sym, ap, ◌∙◌, append_assoc, Some, true, false, codes}
+use Rattle.std.specs.List.{flat_map}
+use Rattle.module_parse.specs.Grammar.{NoStart, Entry, End, context_marks, signature_marks, bracketed_marks, list_marks, to_marks, using_marks, guard_marks, sources_marks, block_marks, rule_marks}
+use Rattle.module_parse.specs.Writing.{here, context_written, signature_written, sources_written, bracketed_written, list_written, to_written, using_written, guard_written, block_written, by_sort}
+use Rattle.module_parse.specs.Printed.{name_text, line_text}
+use Rattle.module_parse.specs.Pending.{spaced, kind_text, expr_text, stat_text}
+use Rattle.module_parse.specs.Fragments.{token, comma, params_text, local_text, bind_text, target_text, head_text, rest_text, first_line, second_line}
+use Rattle.module_parse.proofs.Opened.{OnOk-then, joined}
+use Rattle.module_parse.proofs.Fragmented.{list_texts}
+use Rattle.module_parse.proofs.print.lists.push_binds.Goals as goal
+
+pub returns-in_ok-push_more_binds-in-Some : goal.returns-in_ok-push_more_binds-in-Some
+returns-in_ok-push_more_binds-in-Some c = OnOk-then c.push_sign-in-Some.result c.push_sign-in-Some.ensures (λ e.
+    let cases : c.args.binds.now ≡ c.in-Some.bind.now ∷ c.in-Some.others.now = c.in-Some.ensures.cases.0 in
+    joined _ _ _ (((token (codes "(") []) ++ (bind_text c.in-Some.bind.now)) ++ (flat_map (λ b. comma (bind_text b)) c.in-Some.others.now)) (token (codes ")") []) (joined _ _ _ ((token (codes "(") []) ++ (bind_text c.in-Some.bind.now)) (flat_map (λ b. comma (bind_text b)) c.in-Some.others.now) (joined _ _ _ (token (codes "(") []) (bind_text c.in-Some.bind.now) c.in_ok-push_sign-in-Some.ensures c.in_ok-push_bind-in-Some.ensures) c.in_ok-push_more_binds-in-Some.ensures) e ∙ ap (λ l. c.args.out.now ++ l) (sym (ap (λ l. spaced (list_marks (list_written l))) cases ∙ list_texts c.in-Some.bind.now c.in-Some.others.now)))

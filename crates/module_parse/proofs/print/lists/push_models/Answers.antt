@@ -1,0 +1,14 @@
+use Rattle.std.proofs.Common.{◌≡◌, ◌∷◌, ◌++◌, ◌==◌, length, sym, ap, ◌∙◌, Some, true, false}
+use Rattle.std.proofs.lemmas.List.{nil_from_length}
+use Rattle.module_parse.specs.Grammar.{models_marks, sources_marks, bracketed_marks, list_marks, to_marks, using_marks, guard_marks, context_marks, block_marks, rule_marks}
+use Rattle.module_parse.specs.Writing.{models_written, sources_written, bracketed_written, list_written, to_written, using_written, guard_written, context_written, block_written, by_sort}
+use Rattle.module_parse.specs.Printed.{line_text, printed}
+use Rattle.module_parse.specs.Pending.{spaced}
+use Rattle.module_parse.proofs.Opened.{OnOk-then, joined}
+use Rattle.module_parse.proofs.Fragmented.{models_texts}
+use Rattle.module_parse.proofs.print.lists.push_models.Goals as goal
+
+pub returns-in_ok-push_model-in-Some : goal.returns-in_ok-push_model-in-Some
+returns-in_ok-push_model-in-Some c = OnOk-then c.push_more_models.result c.push_more_models.ensures (λ e.
+    let cases : c.args.decls.now ≡ c.in-Some.decl.now ∷ c.in-Some.others.now = c.in-Some.ensures.cases.0 in
+    joined _ _ _ _ _ c.in_ok-push_model-in-Some.ensures e ∙ ap (λ l. c.args.out.now ++ l) (sym (ap (λ l. spaced (models_marks (models_written l))) cases ∙ models_texts c.in-Some.decl.now c.in-Some.others.now)))

@@ -1,0 +1,14 @@
+use Rattle.std.proofs.Common.{◌≡◌, ◌∷◌, ◌++◌, ◌==◌, length, sym, ap, ◌∙◌, Some, true, false}
+use Rattle.std.proofs.lemmas.List.{nil_from_length}
+use Rattle.module_parse.specs.Grammar.{models_marks, sources_marks, bracketed_marks, list_marks, to_marks, using_marks, guard_marks, context_marks, block_marks, rule_marks}
+use Rattle.module_parse.specs.Writing.{models_written, sources_written, bracketed_written, list_written, to_written, using_written, guard_written, context_written, block_written, by_sort}
+use Rattle.module_parse.specs.Printed.{line_text, printed}
+use Rattle.module_parse.specs.Pending.{spaced}
+use Rattle.module_parse.proofs.Opened.{OnOk-then, joined}
+use Rattle.module_parse.proofs.Fragmented.{sources_texts}
+use Rattle.module_parse.proofs.print.lists.push_sources.Goals as goal
+
+pub returns-in_ok-push_source-in-Some : goal.returns-in_ok-push_source-in-Some
+returns-in_ok-push_source-in-Some c = OnOk-then c.push_more_sources.result c.push_more_sources.ensures (λ e.
+    let cases : c.args.sources.now ≡ c.in-Some.source.now ∷ c.in-Some.others.now = c.in-Some.ensures.cases.0 in
+    joined _ _ _ _ _ c.in_ok-push_source-in-Some.ensures e ∙ ap (λ l. c.args.out.now ++ l) (sym (ap (λ l. spaced (sources_marks (sources_written l))) cases ∙ sources_texts c.in-Some.source.now c.in-Some.others.now)))
