@@ -47,7 +47,7 @@ params_more ps [] = sym (append-nil (spaced (params_marks ps)))
 params_more ps (q ∷ qs) =
     params_more (MoreParams ps here (name_here q.name) here (kind_written q.kind)) qs
     ∙ ap (λ l. l ++ flat_map (λ x. comma (param_text x)) qs) (spaced-append (params_marks ps) (sign here (S.End E.Comma) ∷ called (name_here q.name) ∷ sign here S.Colon ∷ kind_marks (kind_written q.kind))
-      ∙ ap (λ l. spaced (params_marks ps) ++ comma (token (name_text q.name.text) (token (codes ":") l))) (spaced-shared (kind_spelt (kind_written q.kind))))
+    ∙ ap (λ l. spaced (params_marks ps) ++ comma (token (name_text q.name.text) (token (codes ":") l))) (spaced-shared (kind_spelt (kind_written q.kind))))
     ∙ append_assoc (spaced (params_marks ps)) (comma (param_text q)) (flat_map (λ x. comma (param_text x)) qs)
 
 pub bracketed_texts : (ps : List Param) → spaced (bracketed_marks (bracketed_written ps)) ≡ token (codes "(") (params_text ps ++ token (codes ")") [])
@@ -55,7 +55,7 @@ bracketed_texts [] = refl
 bracketed_texts (q ∷ qs) =
     ap (λ l. token (codes "(") l) (spaced-append (params_marks (more_params (OneParam (name_here q.name) here (kind_written q.kind)) qs)) (sign here (S.End E.Close) ∷ [])
     ∙ ap (λ l. l ++ token (codes ")") []) (params_more (OneParam (name_here q.name) here (kind_written q.kind)) qs
-      ∙ ap (λ l. token (name_text q.name.text) (token (codes ":") l) ++ flat_map (λ p. comma (param_text p)) qs) (spaced-shared (kind_spelt (kind_written q.kind)))))
+    ∙ ap (λ l. token (name_text q.name.text) (token (codes ":") l) ++ flat_map (λ p. comma (param_text p)) qs) (spaced-shared (kind_spelt (kind_written q.kind)))))
 
 sources_more : (ss : Sources) (qs : List Pattern) → spaced (sources_marks (more_sources ss qs)) ≡ spaced (sources_marks ss) ++ flat_map (λ p. comma (source_text p)) qs
 sources_more ss [] = sym (append-nil (spaced (sources_marks ss)))
@@ -91,7 +91,7 @@ binds_more bs [] = sym (append-nil (spaced (binds_marks bs)))
 binds_more bs (c ∷ cs) =
     binds_more (MoreBinds bs here (name_here c.feature) here (whole_written c.value)) cs
     ∙ ap (λ l. l ++ flat_map (λ b. comma (bind_text b)) cs) (spaced-append (binds_marks bs) (sign here (S.End E.Comma) ∷ called (name_here c.feature) ∷ word here W.Gives ∷ expression (whole_written c.value))
-      ∙ ap (λ l. spaced (binds_marks bs) ++ comma l) (bind_is c))
+    ∙ ap (λ l. spaced (binds_marks bs) ++ comma l) (bind_is c))
     ∙ append_assoc (spaced (binds_marks bs)) (comma (bind_text c)) (flat_map (λ b. comma (bind_text b)) cs)
 
 pub list_texts : (c : Bind) (cs : List Bind) → spaced (list_marks (list_written (c ∷ cs))) ≡ token (codes "(") ((bind_text c ++ flat_map (λ b. comma (bind_text b)) cs) ++ token (codes ")") [])

@@ -141,8 +141,8 @@ pub let_says : (n : List ℕ) (k : Kind) (e b : Written) (rest : List ℕ) → c
 let_says n k e b rest =
     sym (ap (λ l. codes "let" ++ (32 ∷ (name_text n ++ (32 ∷ (58 ∷ (32 ∷ l))))))
     (says-append (kind_spelt k) (fixed here (S.Operator O.Eq) ∷ (spelt e ++ (fixed here (S.End E.In) ∷ spelt b))) rest ∙ spelling_says (kind_spelt k) (says (fixed here (S.Operator O.Eq) ∷ (spelt e ++ (fixed here (S.End E.In) ∷ spelt b))) rest)
-      ∙ ap (λ l. spelling (kind_spelt k) ++ (61 ∷ (32 ∷ l))) (says-append (spelt e) (fixed here (S.End E.In) ∷ spelt b) rest ∙ spelling_says (spelt e) (says (fixed here (S.End E.In) ∷ spelt b) rest)
-        ∙ ap (λ l. spelling (spelt e) ++ (codes "in" ++ (32 ∷ l))) (spelling_says (spelt b) rest))))
+    ∙ ap (λ l. spelling (kind_spelt k) ++ (61 ∷ (32 ∷ l))) (says-append (spelt e) (fixed here (S.End E.In) ∷ spelt b) rest ∙ spelling_says (spelt e) (says (fixed here (S.End E.In) ∷ spelt b) rest)
+    ∙ ap (λ l. spelling (spelt e) ++ (codes "in" ++ (32 ∷ l))) (spelling_says (spelt b) rest))))
     ∙ spelling_says (spelt (Let here (name here n) here k here e here b)) rest
 
 pub iterate_says : (a : Written) (x y : List ℕ) (k : Kind) (i e : Written) (rest : List ℕ)

@@ -112,10 +112,7 @@ fn open_class<'a>(stack: &mut Vec<Part<'a>>, class: &'a ClassRef) -> Result<(), 
 }
 
 /// Takes a type apart.
-pub(crate) fn open_kind<'a>(
-    stack: &mut Vec<Part<'a>>,
-    kind: &'a KindNode,
-) -> Result<(), AllocError>
+pub(crate) fn open_kind<'a>(stack: &mut Vec<Part<'a>>, kind: &'a KindNode) -> Result<(), AllocError>
     ensures { OnOk result (Opens 0 (reverse stack.old.items) (reverse stack.new.items) (kind_text kind.now)) }
 {
     match &kind.what {

@@ -19,11 +19,7 @@ use ocl_parse::sign::{Ender, Sign};
 use sqlite_items::Items;
 use std::alloc::{AllocError, Global};
 
-fn push_context(
-    alloc: Global,
-    out: &mut Text,
-    context: &Option<KindNode>,
-) -> Result<(), AllocError>
+fn push_context(alloc: Global, out: &mut Text, context: &Option<KindNode>) -> Result<(), AllocError>
     ensures { OnOk result (out.new ≡ out.old ++ spaced (context_marks (context_written context.now))) }
 {
     match context {

@@ -9,10 +9,10 @@ use crate::keyword::Keyword;
 use crate::print::nested::{push_expression, push_kind};
 use crate::print::token::{push_keyword, push_name, push_sign};
 use atl_base::text::Text;
+use atl_tree::expr::BinaryOp;
 use atl_tree::module::{Bind, LocalVar, ModelDecl, Param, Pattern, Target};
 use atl_tree::name::ClassRef;
 use ocl_parse::sign::{Ender, Sign};
-use atl_tree::expr::BinaryOp;
 use std::alloc::{AllocError, Global};
 
 fn push_model(alloc: Global, out: &mut Text, decl: &ModelDecl) -> Result<(), AllocError>

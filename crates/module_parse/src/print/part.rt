@@ -32,10 +32,7 @@ pub(crate) enum Part<'a> {
 }
 
 /// Puts parts on the stack, in the order in which they are printed.
-pub(crate) fn push_all<'a>(
-    stack: &mut Vec<Part<'a>>,
-    parts: &[Part<'a>],
-) -> Result<(), AllocError>
+pub(crate) fn push_all<'a>(stack: &mut Vec<Part<'a>>, parts: &[Part<'a>]) -> Result<(), AllocError>
     ensures { OnOk result (reverse stack.new.items ≡ parts.now ++ reverse stack.old.items) }
 {
     let count = parts.len();

@@ -247,9 +247,7 @@ fn open_statement<'a>(stack: &mut Vec<Part<'a>>, stat: &'a Stat) -> Result<(), A
         Stat::If(condition, body, others) => {
             open_branches(stack, condition, body.as_slice(), others)
         }
-        Stat::For(variable, values, body) => {
-            open_for(stack, variable, values, body.as_slice())
-        }
+        Stat::For(variable, values, body) => { open_for(stack, variable, values, body.as_slice()) }
     }
 }
 

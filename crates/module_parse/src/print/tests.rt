@@ -103,7 +103,10 @@ fn parentheses_stand_where_they_are_needed(rt: HostRuntime) -> Result<(), Fail> 
         ("(-1).abs()", "( - 1 ) . abs ( ) ;\n"),
         ("not (a and b)", "not ( a and b ) ;\n"),
         ("(not a) and b", "not a and b ;\n"),
-        ("(let x : Integer = 1 in x) + 1", "( let x : Integer = 1 in x ) + 1 ;\n"),
+        (
+            "(let x : Integer = 1 in x) + 1",
+            "( let x : Integer = 1 in x ) + 1 ;\n",
+        ),
         (
             "let x : Set(A!B) = Set{} in x + 1",
             "let x : Set ( A ! B ) = Set { } in x + 1 ;\n",
@@ -134,7 +137,10 @@ fn all_kinds_of_tokens_are_printed(rt: HostRuntime) -> Result<(), Fail> {
         ("self.x", "self . x ;\n"),
         ("thisModule.f()", "thisModule . f ( ) ;\n"),
         ("A!B.allInstances()", "A ! B . allInstances ( ) ;\n"),
-        ("Bag{1,OclAny,Sequence{}}", "Bag { 1 , OclAny , Sequence { } } ;\n"),
+        (
+            "Bag{1,OclAny,Sequence{}}",
+            "Bag { 1 , OclAny , Sequence { } } ;\n",
+        ),
         (
             "a->select(x|x<>1)->f(1,2)",
             "a -> select ( x | x <> 1 ) -> f ( 1 , 2 ) ;\n",
@@ -198,8 +204,7 @@ fn a_module_is_printed_line_by_line(rt: HostRuntime) -> Result<(), Fail> {
     let mut module = module_of(alloc, Item::Make(node_to_item(alloc)?))?;
     module.name = name(alloc, "N2I")?;
     let printed = print_module(alloc, &module)?;
-    assert_eq!(
-        rt;
+    assert_eq!(rt;
         printed.as_str(),
         "module N2I ;\ncreate OUT : B from IN : A ;\nrule R { from s : A ! Node to t : B ! Item ( label <- s . name , link <- s . next , parts <- s . kids ) }\n"
     );
@@ -242,8 +247,7 @@ fn statements_are_printed(rt: HostRuntime) -> Result<(), Fail> {
     let mut stats = Items::new(alloc);
     stats.push(Stat::If(expression(alloc, "a")?, inner, Some(others)))?;
     stats.push(Stat::If(expression(alloc, "a")?, Items::new(alloc), None))?;
-    assert_eq!(
-        rt;
+    assert_eq!(rt;
         block_line(alloc, stats)?.as_str(),
         "abstract unique lazy rule R extends Q { from s : A ! Node do { if ( a ) { 1 + a . b <- 2 ; if a then b else c endif . f ( ) ; if a . x then b else c endif ; ( if ( a + 1 ) * 2 then b else c endif ) + 1 ; } else { for ( i in s ) { } } if ( a ) { } } }\n"
     );
@@ -301,7 +305,13 @@ fn long_chains_are_printed(rt: HostRuntime) -> Result<(), Fail> {
     let alloc = rt.alloc();
     let rest = length_of(alloc, number())?;
     // ` + 1`, and ` . f ( )`
-    assert_eq!(rt; length_of(alloc, long_sum(alloc, 100_000)?)?, rest + 400_000);
-    assert_eq!(rt; length_of(alloc, long_calls(alloc, 100_000)?)?, rest + 800_000);
+    assert_eq!(rt;
+        length_of(alloc, long_sum(alloc, 100_000)?)?,
+        rest + 400_000
+    );
+    assert_eq!(rt;
+        length_of(alloc, long_calls(alloc, 100_000)?)?,
+        rest + 800_000
+    );
     Ok(())
 }

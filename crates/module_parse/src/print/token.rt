@@ -66,9 +66,7 @@ fn is_digit(byte: u8) -> bool
 fn are_plain(bytes: &[u8]) -> bool
     ensures { result ≡ list_all (λ d. is_letter_of d || is_digit_of d) bytes.now }
 {
-    bytes
-        .iter()
-        .all(|byte| is_letter(*byte) || is_digit(*byte))
+    bytes.iter().all(|byte| is_letter(*byte) || is_digit(*byte))
 }
 
 fn is_plain(text: &[u8]) -> bool

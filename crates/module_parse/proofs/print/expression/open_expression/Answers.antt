@@ -12,7 +12,7 @@ returns-then-is_enclosed c =
     let e = c.args.expr.now in
     let how : begun c.args.first (expr_written e c.args.least) ≡ Round here (expr_written e 0) here =
     ap (λ f. begun c.args.first (f c.args.least)) (expr_is e) ∙ c.is_enclosed.ensures ∙ ap (λ b. if b then Round here (what_written e.what 0) here else bare c.args.first (what_written e.what 0)) c.if-is_enclosed.true
-        ∙ ap (λ f. Round here (f 0) here) (sym (expr_is e)) in
+    ∙ ap (λ f. Round here (f 0) here) (sym (expr_is e)) in
     OnOk-then c.push_all.result c.push_all.ensures (λ q. record { text = ap pending q ∙ round_says (expr_written e 0) (pending (reverse c.args.stack.now.items)) ∙ ap (λ w. spelling (spelt w) ++ pending (reverse c.args.stack.now.items)) (sym how); less = rw q (omega arith) })
 
 pub returns : goal.returns
