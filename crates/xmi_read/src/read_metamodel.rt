@@ -93,3 +93,6 @@ pub fn read_metamodel(alloc: Global, doc: &Doc) -> Result<Metamodel, MetaRefusal
         None => Ok(metamodel_of(alloc, file)?),
     }
 }
+
+#[cfg(test)]
+mod tests;
