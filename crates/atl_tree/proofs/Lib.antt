@@ -6,3 +6,4 @@ pub mod Walks
 pub mod Exact
 pub mod Fronts
 pub mod Lines
+pub mod Breaks

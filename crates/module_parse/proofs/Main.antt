@@ -171,7 +171,7 @@ tells ts (Expected r) x y z =
 tells ts (Deep p) x y z = tells_deep ts p x
 
 -- a module that fits with the depth fits without it
-loosened : (ts : List Mark) (m : Module) → IsModule true ts m → IsModule false ts m
+pub loosened : (ts : List Mark) (m : Module) → IsModule true ts m → IsModule false ts m
 loosened ts m h = on (subst (Halt AtStart ts ts) (accepts true ts m h) (halts ts AtStart ts refl))
   where
     on : Halt AtStart ts ts (Read m) → IsModule false ts m

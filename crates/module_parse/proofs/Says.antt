@@ -21,7 +21,7 @@ use Rattle.module_parse.specs.Places.{placed_kind, placed, all_placed}
 use Rattle.module_parse.proofs.Writings.{expr_is, what_is}
 
 -- a node is written by its parts
-written_is : (p : Place) (y : E.ExprKind-F ExprKind Expr) (k : ExprKind) (l : ℕ) → roll-ExprKind y ≡ k → expr_written (expr p k) l ≡ layer (map-ExprKind _ _ _ _ what_written expr_written y) l
+pub written_is : (p : Place) (y : E.ExprKind-F ExprKind Expr) (k : ExprKind) (l : ℕ) → roll-ExprKind y ≡ k → expr_written (expr p k) l ≡ layer (map-ExprKind _ _ _ _ what_written expr_written y) l
 written_is p y k l h = ap (λ f. f l) (expr_is (expr p k) ∙ ap what_written (sym h) ∙ what_is y)
 
 unfoldable sort_written : KindSort → Kind
@@ -49,21 +49,21 @@ round_says : (t : Bool) (l m : ℕ) (u v : Written) → nat_lt m l ≡ t → ((j
 round_says true l m u v h s = let x = s 0 (omega arith) in ((λ d. (refl, x.0 (suc d))), x.1)
 round_says false l m u v h s = s l (grind (arith, nat_tests))
 
-abbrev alone : Expr → Written
+abbrev pub alone : Expr → Written
 alone e = expr_written e 0
 
-abbrev written_all : List Expr → Arguments
+abbrev pub written_all : List Expr → Arguments
 written_all es = arguments (map (λ e. e 0) (map expr_written es))
 
 more_last : (bs : Arguments) (ws : List Written) (w : Written) → more bs (ws ++ (w ∷ [])) ≡ More (more bs ws) here w
 more_last bs [] w = refl
 more_last bs (x ∷ ws) w = more_last (More bs here x) ws w
 
-abbrev IsSome : List Expr → Type 0
+abbrev pub IsSome : List Expr → Type 0
 IsSome [] = ⊥
 IsSome (e ∷ es) = Unit {0}
 
-written_last : (es : List Expr) (e : Expr) → IsSome es → written_all (es ++ (e ∷ [])) ≡ More (written_all es) here (alone e)
+pub written_last : (es : List Expr) (e : Expr) → IsSome es → written_all (es ++ (e ∷ [])) ≡ More (written_all es) here (alone e)
 written_last [] e h = absurd h
 written_last (x ∷ es) e h =
     ap (λ l. more (One (alone x)) (map (λ f. f 0) l)) (map-append expr_written es (e ∷ [])) ∙ ap (λ l. more (One (alone x)) l) (map-append (λ f. f 0) (map expr_written es) (expr_written e ∷ []))
@@ -73,12 +73,12 @@ some_last : (es : List Expr) (e : Expr) → IsSome (es ++ (e ∷ []))
 some_last [] e = tt
 some_last (x ∷ es) e = tt
 
-some_trees : (es : Arguments) → AreSome es → IsSome (trees es)
+pub some_trees : (es : Arguments) → AreSome es → IsSome (trees es)
 some_trees None h = absurd h
 some_trees (One e) h = tt
 some_trees (More es p e) h = some_last (trees es) (tree_of e)
 
-some_written : (es : List Expr) → IsSome es → AreSome (written_all es)
+pub some_written : (es : List Expr) → IsSome es → AreSome (written_all es)
 some_written [] h = absurd h
 some_written (e ∷ es) h = on (One (alone e)) (map (λ f. f 0) (map expr_written es)) tt
   where

@@ -36,7 +36,7 @@ use Rattle.module_parse.proofs.SaysParts.{IsSome, some_last, models_say, bracket
 
 -- bindings and targets
 
-more_binds_last : (bs : Binds) (cs : List Bind) (c : Bind) → more_binds bs (cs ++ (c ∷ [])) ≡ MoreBinds (more_binds bs cs) here (name_here c.feature) here (whole_written c.value)
+pub more_binds_last : (bs : Binds) (cs : List Bind) (c : Bind) → more_binds bs (cs ++ (c ∷ [])) ≡ MoreBinds (more_binds bs cs) here (name_here c.feature) here (whole_written c.value)
 more_binds_last bs [] c = refl
 more_binds_last bs (x ∷ cs) c = more_binds_last (MoreBinds bs here (name_here x.feature) here (whole_written x.value)) cs c
 
@@ -48,7 +48,7 @@ list_last [] c ds h s g = absurd h
 list_last (x ∷ cs) c ds h s g =
     rw (more_binds_last (OneBind (name_here x.feature) here (whole_written x.value)) cs c) ((s.0, g 0), ap (λ l. l ++ (bind (name_here c.feature) (tree_of (whole_written c.value)) ∷ [])) s.1)
 
-some_binds : (bs : Binds) → IsSome (binds bs)
+pub some_binds : (bs : Binds) → IsSome (binds bs)
 some_binds (OneBind n p e) = tt
 some_binds (MoreBinds bs c n p e) = some_last (binds bs) (bind n (tree_of e))
 
@@ -64,10 +64,10 @@ list_says NoList f = (tt, refl)
 list_says (EmptyList p q) f = (tt, refl)
 list_says (SomeBinds p bs q) f = binds_say bs f
 
-abbrev class_name : List ℕ → Name
+abbrev pub class_name : List ℕ → Name
 class_name s = record { text = s; place = here }
 
-more_targets_last : (ts : Targets) (xs : List Target) (x : Target)
+pub more_targets_last : (ts : Targets) (xs : List Target) (x : Target)
     → more_targets ts (xs ++ (x ∷ [])) ≡ MoreTargets (more_targets ts xs) here (name_here x.name) here (class_name x.class.meta) here (class_name x.class.class) (list_written x.binds)
 more_targets_last ts [] x = refl
 more_targets_last ts (y ∷ xs) x = more_targets_last (MoreTargets ts here (name_here y.name) here (class_name y.class.meta) here (class_name y.class.class) (list_written y.binds)) xs x
@@ -82,7 +82,7 @@ to_last (z ∷ xs) x ys h s g =
     rw (more_targets_last (OneTarget (name_here z.name) here (class_name z.class.meta) here (class_name z.class.class) (list_written z.binds)) xs x)
     ((s.0, g), ap (λ l. l ++ (target (name_here x.name) (class (class_name x.class.meta) (class_name x.class.class)) (bind_list (list_written x.binds)) ∷ [])) s.1)
 
-some_targets : (ts : Targets) → IsSome (targets ts)
+pub some_targets : (ts : Targets) → IsSome (targets ts)
 some_targets (OneTarget n p m q c bs) = tt
 some_targets (MoreTargets ts r n p m q c bs) = some_last (targets ts) (target n (class m c) (bind_list bs))
 
@@ -100,12 +100,12 @@ to_says (SomeTo p ts) f = targets_say ts f
 
 -- how a statement's expression begins
 
-abbrev NotIf : Symbol → Type 0
+abbrev pub NotIf : Symbol → Type 0
 NotIf (T.Fixed S.If) = ⊥
 NotIf s = Unit {0}
 
 -- its first symbol is not `if`
-abbrev FirstNotIf : List Lexeme → Type 0
+abbrev pub FirstNotIf : List Lexeme → Type 0
 FirstNotIf [] = ⊥
 FirstNotIf (t ∷ ts) = NotIf t.symbol
 
@@ -113,7 +113,7 @@ first_front : (xs ys : List Lexeme) → FirstNotIf xs → FirstNotIf (xs ++ ys)
 first_front [] ys h = absurd h
 first_front (t ∷ xs) ys h = h
 
-first_begins : (xs : List Lexeme) → FirstNotIf xs → begins_if xs ≡ false
+pub first_begins : (xs : List Lexeme) → FirstNotIf xs → begins_if xs ≡ false
 first_begins [] h = refl
 first_begins (t ∷ []) h = refl
 first_begins (t ∷ u ∷ xs) h = on t.symbol t.place h
@@ -122,7 +122,7 @@ first_begins (t ∷ u ∷ xs) h = on t.symbol t.place h
     on (T.Fixed S.If) p h = absurd h
     on s p h = refl
 
-leftmost_first : (w : Written) → FirstNotIf (spelt (round_leftmost w))
+pub leftmost_first : (w : Written) → FirstNotIf (spelt (round_leftmost w))
 leftmost_first (Number p n) = tt
 leftmost_first (Text p s) = tt
 leftmost_first (Lone p c) = tt
@@ -169,18 +169,18 @@ beginning_says w f = on (begins_if (spelt w)) refl
 
 -- statements
 
-stat_is : (y : Y.Stat-F Stat) (k : Stat) → roll-Stat y ≡ k → stat_written k ≡ stat_layer (map-Stat _ _ stat_written y)
+pub stat_is : (y : Y.Stat-F Stat) (k : Stat) → roll-Stat y ≡ k → stat_written k ≡ stat_layer (map-Stat _ _ stat_written y)
 unfolding stat_written
 stat_is y k h = sym (ap stat_written h) ∙ fold-roll-Stat _ stat_layer y
 
-abbrev all_written : List Stat → Stats
+abbrev pub all_written : List Stat → Stats
 all_written ss = more_stats NoStats (map stat_written ss)
 
-more_stats_last : (ss : Stats) (ts : List WrittenStat) (t : WrittenStat) → more_stats ss (ts ++ (t ∷ [])) ≡ MoreStats (more_stats ss ts) t
+pub more_stats_last : (ss : Stats) (ts : List WrittenStat) (t : WrittenStat) → more_stats ss (ts ++ (t ∷ [])) ≡ MoreStats (more_stats ss ts) t
 more_stats_last ss [] t = refl
 more_stats_last ss (x ∷ ts) t = more_stats_last (MoreStats ss x) ts t
 
-stats_last : (ss : List Stat) (s : Stat) → all_written (ss ++ (s ∷ [])) ≡ MoreStats (all_written ss) (stat_written s)
+pub stats_last : (ss : List Stat) (s : Stat) → all_written (ss ++ (s ∷ [])) ≡ MoreStats (all_written ss) (stat_written s)
 stats_last ss s = ap (λ l. more_stats NoStats l) (map-append stat_written ss (s ∷ [])) ∙ more_stats_last NoStats (map stat_written ss) (stat_written s)
 
 abbrev StatSays : WrittenStat → Type 0
@@ -238,10 +238,10 @@ placed_modifiers NoWords = refl
 placed_modifiers (MoreWords ws p w) = ap (λ m. with_modifier m w) (placed_modifiers ws)
 
 -- the words before `rule`, by what they say
-abbrev words_of : Modifiers → Words
+abbrev pub words_of : Modifiers → Words
 words_of m = sort_words (sort_of m) (abstract_words m.is_abstract)
 
-record WordsSay (m : Modifiers) : Type 0 where
+pub record WordsSay (m : Modifiers) : Type 0 where
   pub fit : WordsFit (words_of m)
   pub stand : may_stand (modifiers (words_of m)) ≡ true
   pub lazy : (modifiers (words_of m)).is_lazy ≡ m.is_lazy
@@ -252,7 +252,7 @@ abbrev IsTrue : Bool → Type 0
 IsTrue true = Unit {0}
 IsTrue false = ⊥
 
-words_say : (a u l : Bool) → (if u then l else true) ≡ true → WordsSay (record { is_abstract = a; is_unique = u; is_lazy = l })
+pub words_say : (a u l : Bool) → (if u then l else true) ≡ true → WordsSay (record { is_abstract = a; is_unique = u; is_lazy = l })
 words_say true true true h = record { fit = (((tt, refl), refl), refl); stand = refl; lazy = refl; sort = refl; bare = refl }
 words_say false true true h = record { fit = ((tt, refl), refl); stand = refl; lazy = refl; sort = refl; bare = refl }
 words_say true false true h = record { fit = ((tt, refl), refl); stand = refl; lazy = refl; sort = refl; bare = refl }
@@ -261,14 +261,14 @@ words_say true false false h = record { fit = (tt, refl); stand = refl; lazy = r
 words_say false false false h = record { fit = tt; stand = refl; lazy = refl; sort = refl; bare = refl }
 words_say a true false h = absurd (subst IsTrue (sym h) tt)
 
-start_fits : (x : Start) (ps : Bracketed) → StartFits x ps → StartFits (placed_start x) (bracketed_written (bracketed ps))
+pub start_fits : (x : Start) (ps : Bracketed) → StartFits x ps → StartFits (placed_start x) (bracketed_written (bracketed ps))
 start_fits NoStart ps f = tt
 start_fits (Entry p) (NoParams q r) f = tt
 start_fits (Entry p) (SomeParams q ps r) f = absurd f
 start_fits (End p) (NoParams q r) f = tt
 start_fits (End p) (SomeParams q ps r) f = absurd f
 
-by_start : (x : Start) (r : Rule) → by_sort (start x) r ≡ called_written (placed_start x) r
+pub by_start : (x : Start) (r : Rule) → by_sort (start x) r ≡ called_written (placed_start x) r
 by_start NoStart r = refl
 by_start (Entry p) r = refl
 by_start (End p) r = refl
@@ -278,7 +278,7 @@ start_placed NoStart = refl
 start_placed (Entry p) = refl
 start_placed (End p) = refl
 
-by_words : (u l : Bool) (r : Rule) → by_sort (if u then R.Unique else if l then R.Lazy else R.Matched) r ≡ matched_written r
+pub by_words : (u l : Bool) (r : Rule) → by_sort (if u then R.Unique else if l then R.Lazy else R.Matched) r ≡ matched_written r
 by_words true l r = refl
 by_words false true r = refl
 by_words false false r = refl
@@ -323,7 +323,7 @@ item_says : (i : WrittenItem) → ItemFits false i → ItemFits false (item_writ
 item_says (Help h) f = let x = helper_says h f in (x.0, ap (λ u. I.Help u) x.1)
 item_says (Make w) f = let x = rule_says w f in (x.0, ap (λ u. I.Make u) x.1)
 
-more_items_last : (is : Items) (js : List Item) (j : Item) → more_items is (js ++ (j ∷ [])) ≡ MoreItems (more_items is js) (item_written j)
+pub more_items_last : (is : Items) (js : List Item) (j : Item) → more_items is (js ++ (j ∷ [])) ≡ MoreItems (more_items is js) (item_written j)
 more_items_last is [] j = refl
 more_items_last is (x ∷ js) j = more_items_last (MoreItems is (item_written x)) js j
 
@@ -335,7 +335,7 @@ items_say (MoreItems is i) f =
     rw (more_items_last NoItems (items is) (item i)) ((x.0, y.0), ap (λ l. l ++ (item (item_written (item i)) ∷ [])) x.1 ∙ ap (λ u. items (placed_items is) ++ (u ∷ [])) y.1)
 
 -- what is canonically written is of the grammar and has the tree, places aside
-module_says : (w : WrittenModule) → ModuleFits false w → ModuleFits false (module_written (module_tree w)) × (module_tree (module_written (module_tree w)) ≡ module_tree (placed_module w))
+pub module_says : (w : WrittenModule) → ModuleFits false w → ModuleFits false (module_written (module_tree w)) × (module_tree (module_written (module_tree w)) ≡ module_tree (placed_module w))
 module_says (Composed p n q r ts s ss t is) f =
     let x = items_say is f in (
       x.0,

@@ -28,11 +28,11 @@ more_models_last : (ms : Models) (ds : List ModelDecl) (d : ModelDecl) → more_
 more_models_last ms [] d = refl
 more_models_last ms (x ∷ ds) d = more_models_last (MoreModels ms here (name_here x.model) here (name_here x.meta)) ds d
 
-models_last : (ds : List ModelDecl) (d : ModelDecl) → IsSome ds → models_written (ds ++ (d ∷ [])) ≡ MoreModels (models_written ds) here (name_here d.model) here (name_here d.meta)
+pub models_last : (ds : List ModelDecl) (d : ModelDecl) → IsSome ds → models_written (ds ++ (d ∷ [])) ≡ MoreModels (models_written ds) here (name_here d.model) here (name_here d.meta)
 models_last [] d h = absurd h
 models_last (x ∷ ds) d h = more_models_last (OneModel (name_here x.model) here (name_here x.meta)) ds d
 
-some_models : (ms : Models) → IsSome (models ms)
+pub some_models : (ms : Models) → IsSome (models ms)
 some_models (OneModel m p n) = tt
 some_models (MoreModels ms c m p n) = some_last (models ms) (model m n)
 
@@ -42,7 +42,7 @@ models_say (MoreModels ms c m p n) = rw (models_last (models ms) (model m n) (so
 
 -- parameters
 
-more_params_last : (ps : Params) (qs : List Param) (q : Param) → more_params ps (qs ++ (q ∷ [])) ≡ MoreParams (more_params ps qs) here (name_here q.name) here (kind_written q.kind)
+pub more_params_last : (ps : Params) (qs : List Param) (q : Param) → more_params ps (qs ++ (q ∷ [])) ≡ MoreParams (more_params ps qs) here (name_here q.name) here (kind_written q.kind)
 more_params_last ps [] q = refl
 more_params_last ps (x ∷ qs) q = more_params_last (MoreParams ps here (name_here x.name) here (kind_written x.kind)) qs q
 
@@ -50,7 +50,7 @@ bracketed_last : (qs : List Param) (q : Param) → IsSome qs → bracketed (brac
 bracketed_last [] q h = absurd h
 bracketed_last (x ∷ qs) q h = ap params (more_params_last (OneParam (name_here x.name) here (kind_written x.kind)) qs q)
 
-some_params : (ps : Params) → IsSome (params ps)
+pub some_params : (ps : Params) → IsSome (params ps)
 some_params (OneParam n p k) = tt
 some_params (MoreParams ps c n p k) = some_last (params ps) (param n (kind_of k))
 
@@ -74,7 +74,7 @@ context_fits (Basic p w) f = tt
 context_fits (Class m p c) f = tt
 context_fits (Coll p w q k r) f = absurd f
 
-context_says : (c : Context) → ContextFits c → ContextFits (context_written (context c)) × (context (context_written (context c)) ≡ context (placed_context c))
+pub context_says : (c : Context) → ContextFits c → ContextFits (context_written (context c)) × (context (context_written (context c)) ≡ context (placed_context c))
 context_says NoContext f = (tt, refl)
 context_says (InContext p k) f = (subst IsContext (sym (kind_says k)) (context_fits k f), ap (λ u. Some (kind_of u)) (kind_says k))
 
@@ -99,11 +99,11 @@ more_sources_last : (ss : Sources) (qs : List Pattern) (q : Pattern) → more_so
 more_sources_last ss [] q = refl
 more_sources_last ss (x ∷ qs) q = more_sources_last (MoreSources ss here (name_here x.name) here (record { text = x.class.meta; place = here }) here (record { text = x.class.class; place = here })) qs q
 
-sources_last : (qs : List Pattern) (q : Pattern) → IsSome qs → sources_written (qs ++ (q ∷ [])) ≡ MoreSources (sources_written qs) here (name_here q.name) here (record { text = q.class.meta; place = here }) here (record { text = q.class.class; place = here })
+pub sources_last : (qs : List Pattern) (q : Pattern) → IsSome qs → sources_written (qs ++ (q ∷ [])) ≡ MoreSources (sources_written qs) here (name_here q.name) here (record { text = q.class.meta; place = here }) here (record { text = q.class.class; place = here })
 sources_last [] q h = absurd h
 sources_last (x ∷ qs) q h = more_sources_last (OneSource (name_here x.name) here (record { text = x.class.meta; place = here }) here (record { text = x.class.class; place = here })) qs q
 
-some_sources : (ss : Sources) → IsSome (sources ss)
+pub some_sources : (ss : Sources) → IsSome (sources ss)
 some_sources (OneSource n p m q c) = tt
 some_sources (MoreSources ss r n p m q c) = some_last (sources ss) (pattern n (class m c))
 
@@ -122,7 +122,7 @@ parent_says (Extends p n) = refl
 
 -- variables
 
-more_locals_last : (ls : Locals) (vs : List LocalVar) (v : LocalVar) → more_locals ls (vs ++ (v ∷ [])) ≡ MoreLocals (more_locals ls vs) (name_here v.name) here (kind_written v.kind) here (whole_written v.value) here
+pub more_locals_last : (ls : Locals) (vs : List LocalVar) (v : LocalVar) → more_locals ls (vs ++ (v ∷ [])) ≡ MoreLocals (more_locals ls vs) (name_here v.name) here (kind_written v.kind) here (whole_written v.value) here
 more_locals_last ls [] v = refl
 more_locals_last ls (x ∷ vs) v = more_locals_last (MoreLocals ls (name_here x.name) here (kind_written x.kind) here (whole_written x.value) here) vs v
 

@@ -8,6 +8,9 @@ pub mod Laws
 pub mod Writing
 pub mod Printed
 pub mod Reading
+pub mod Nexts
 pub mod Places
 pub mod Pending
 pub mod Fragments
+pub mod Held
+pub mod ReadBack

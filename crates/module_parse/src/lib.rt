@@ -3,4 +3,6 @@
 
 pub mod keyword;
 pub mod laws;
+pub mod parse;
 pub mod print;
+mod reading;

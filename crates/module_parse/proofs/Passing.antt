@@ -1,0 +1,34 @@
+-- From what the tokens give, one after another, to what the text gives.
+use Rattle.std.proofs.Common.{◌≡◌, ℕ, ◌≤◌, List, Bool, true, false, length, drop, sym, ap, ◌∙◌, subst}
+use Rattle.std.specs.Prelude.{Result, Ok, Err, MatchResult}
+use Rattle.std.proofs.lemmas.List.{drop_all}
+use Rattle.atl_base.specs.declared.place.Place.{Place}
+use Rattle.atl_tree.specs.declared.module.Module.{Module}
+use Rattle.atl_tree.specs.declared.token.LexRefusal.{LexRefusal}
+use Rattle.atl_tree.specs.declared.token.Token.{Token}
+use Rattle.atl_tree.specs.declared.token.Tokens.{Tokens}
+use Rattle.ocl_parse.specs.declared.refusal.ParseRefusal.{ParseRefusal}
+use Rattle.module_parse.specs.Marks.{marks}
+use Rattle.module_parse.specs.Machine.{State, End, finish, read, run}
+use Rattle.module_parse.specs.Reading.{module_in, parsed, told, Fails, Gives}
+
+-- behind the last token only the end is left
+all_read : (ts : List Token) (i : ℕ) (led : Bool) (s : State) → length ts ≤ i → run true s (marks led (drop i ts)) ≡ finish true s
+all_read ts i led s h = ap (λ us. run true s (marks led us)) (drop_all i ts h)
+
+pub ends : (ts : List Token) (end : Place) (i : ℕ) (led : Bool) (s : State) (r : Result Module ParseRefusal)
+    → length ts ≤ i → run true s (marks led (drop i ts)) ≡ read true (marks false ts)
+    → MatchResult r (λ m. (n : ℕ) → Gives m (told n end (finish true s))) (λ e. (n : ℕ) → Fails e (told n end (finish true s)))
+    → MatchResult r (λ m. Gives m (module_in ts end)) (λ e. Fails e (module_in ts end))
+ends ts end i led s (Ok m) h k f = subst (λ (u : End). Gives m (told (length ts) end u)) (sym (all_read ts i led s h) ∙ k) (f (length ts))
+ends ts end i led s (Err e) h k f = subst (λ (u : End). Fails e (told (length ts) end u)) (sym (all_read ts i led s h) ∙ k) (f (length ts))
+
+pub fails_before : (ts : List Token) (end : Place) (u : End) (e : ParseRefusal) → u ≡ read true (marks false ts) → Fails e (told (length ts) end u) → Fails e (module_in ts end)
+fails_before ts end u e k f = subst (λ (v : End). Fails e (told (length ts) end v)) k f
+
+pub parsed_by : (x : Result Tokens LexRefusal) (ts : Tokens) (us : List Token) (r : Result Module ParseRefusal) → x ≡ Ok ts → us ≡ ts.list
+    → MatchResult r (λ m. Gives m (module_in us ts.end)) (λ e. Fails e (module_in us ts.end))
+    → MatchResult r (λ m. Gives m (parsed x)) (λ e. Fails e (parsed x))
+parsed_by x ts us r h k f =
+    subst (λ (y : Result Tokens LexRefusal). MatchResult r (λ m. Gives m (parsed y)) (λ e. Fails e (parsed y))) (sym h)
+    (subst (λ (vs : List Token). MatchResult r (λ m. Gives m (module_in vs ts.end)) (λ e. Fails e (module_in vs ts.end))) k f)

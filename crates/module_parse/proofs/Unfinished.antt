@@ -1,0 +1,122 @@
+-- Where no module ends.
+use Rattle.std.proofs.Common.{◌≡◌, ℕ, refl}
+use Rattle.std.specs.Prelude.{true, Err}
+use Rattle.atl_base.specs.declared.place.Place.{Place}
+use Rattle.atl_tree.specs.declared.module.Module.{Module}
+use Rattle.atl_tree.specs.declared.module.Rule.{Rule}
+use Rattle.atl_tree.specs.declared.module.Target.{Target}
+use Rattle.atl_tree.specs.declared.name.Name.{Name}
+use Rattle.ocl_parse.specs.declared.refusal.ParseRefusal.TheVariants as R
+use Rattle.module_parse.specs.Machine.{finish}
+use Rattle.module_parse.specs.Reading.{told}
+use Rattle.module_parse.specs.Nexts.{state_of, header_of, helping_of, params_of, head_of, rule_of, colon_of, class_of, target_of, stating_of}
+use Rattle.module_parse.specs.declared.reading.next.Header.{Header}
+use Rattle.module_parse.specs.declared.reading.next.Header.TheVariants as H
+use Rattle.module_parse.specs.declared.reading.next.Helping.{Helping}
+use Rattle.module_parse.specs.declared.reading.next.Helping.TheVariants as L
+use Rattle.module_parse.specs.declared.reading.next.Params.{Params}
+use Rattle.module_parse.specs.declared.reading.next.Params.TheVariants as P
+use Rattle.module_parse.specs.declared.reading.next.Head.{Head}
+use Rattle.module_parse.specs.declared.reading.next.Head.TheVariants as D
+use Rattle.module_parse.specs.declared.reading.next.Point.{Point}
+use Rattle.module_parse.specs.declared.reading.next.Point.TheVariants as T
+use Rattle.module_parse.specs.declared.reading.next.Colon.{Colon}
+use Rattle.module_parse.specs.declared.reading.next.Colon.TheVariants as N
+use Rattle.module_parse.specs.declared.reading.next.Class.{Class}
+use Rattle.module_parse.specs.declared.reading.next.Class.TheVariants as C
+use Rattle.module_parse.specs.declared.reading.next.TargetPoint.{TargetPoint}
+use Rattle.module_parse.specs.declared.reading.next.TargetPoint.TheVariants as G
+use Rattle.module_parse.specs.declared.reading.next.Stating.{Stating}
+use Rattle.module_parse.specs.declared.reading.next.Stating.TheVariants as S
+use Rattle.module_parse.specs.declared.reading.next.ForExpr.{ForExpr}
+use Rattle.module_parse.specs.declared.reading.next.Part.{Part}
+use Rattle.module_parse.specs.declared.reading.next.Next.{Next}
+use Rattle.module_parse.specs.declared.reading.next.Next.TheVariants as X
+
+in_header : (h : Header) (n : ℕ) (end : Place) → told n end (finish true (header_of h)) ≡ Err (R.Expected end)
+in_header H.Start k end = refl
+in_header H.ModuleName k end = refl
+in_header (H.ModuleEnd n) k end = refl
+in_header (H.Create n) k end = refl
+in_header (H.Model ms) k end = refl
+in_header (H.ModelColon ms m) k end = refl
+in_header (H.Meta ms m) k end = refl
+in_header (H.ModelEnd ms) k end = refl
+
+in_helper : (h : Helping) (n : ℕ) (end : Place) → told n end (finish true (helping_of h)) ≡ Err (R.Expected end)
+in_helper (L.Begun m) k end = refl
+in_helper (L.Context m) k end = refl
+in_helper (L.DefColon m c) k end = refl
+in_helper (L.HelperName m c) k end = refl
+in_helper (L.Named m c n) k end = refl
+in_helper (L.ResultColon s) k end = refl
+
+in_params : (p : Params) (n : ℕ) (end : Place) → told n end (finish true (params_of p)) ≡ Err (R.Expected end)
+in_params (P.First o) k end = refl
+in_params (P.Further o ps) k end = refl
+in_params (P.Colon o ps n) k end = refl
+
+in_head : (h : Head) (n : ℕ) (end : Place) → told n end (finish true (head_of h)) ≡ Err (R.Expected end)
+in_head (D.Word m ws) k end = refl
+in_head (D.RuleWord m s) k end = refl
+in_head (D.RuleName m f s a) k end = refl
+in_head (D.RuleOpen f d) k end = refl
+
+in_rule : (p : Point) (m : Module) (r : Rule) (n : ℕ) (end : Place) → told n end (finish true (rule_of p m r)) ≡ Err (R.Expected end)
+in_rule T.Parent m r k end = refl
+in_rule T.Brace m r k end = refl
+in_rule T.NoParams m r k end = refl
+in_rule T.CalledBrace m r k end = refl
+in_rule T.From m r k end = refl
+in_rule T.Source m r k end = refl
+in_rule T.SourceEnd m r k end = refl
+in_rule T.Rest m r k end = refl
+in_rule T.Using m r k end = refl
+in_rule T.Local m r k end = refl
+in_rule T.To m r k end = refl
+in_rule T.Target m r k end = refl
+in_rule T.TargetEnd m r k end = refl
+in_rule T.Do m r k end = refl
+in_rule T.RuleEnd m r k end = refl
+
+before_colon : (c : Colon) (m : Module) (r : Rule) (x : Name) (n : ℕ) (end : Place) → told n end (finish true (colon_of c m r x)) ≡ Err (R.Expected end)
+before_colon N.Source m r n k end = refl
+before_colon N.Local m r n k end = refl
+before_colon N.Target m r n k end = refl
+
+in_class : (c : Class) (n : ℕ) (end : Place) → told n end (finish true (class_of c)) ≡ Err (R.Expected end)
+in_class (C.Meta c) k end = refl
+in_class (C.Bang c n) k end = refl
+in_class (C.ClassName c n) k end = refl
+
+in_target : (p : TargetPoint) (m : Module) (r : Rule) (x : Target) (n : ℕ) (end : Place) → told n end (finish true (target_of p m r x)) ≡ Err (R.Expected end)
+in_target G.Binds m r x k end = refl
+in_target G.FirstBind m r x k end = refl
+in_target G.Bind m r x k end = refl
+
+in_block : (s : Stating) (n : ℕ) (end : Place) → told n end (finish true (stating_of s)) ≡ Err (R.Expected end)
+in_block (S.Statement b) k end = refl
+in_block (S.If b p) k end = refl
+in_block (S.IfBrace b e) k end = refl
+in_block (S.Else b e zs) k end = refl
+in_block (S.ElseBrace b e zs) k end = refl
+in_block (S.For b) k end = refl
+in_block (S.ForName b) k end = refl
+in_block (S.ForIn b n) k end = refl
+in_block (S.ForBrace b n e) k end = refl
+
+-- only behind an item, and in an expression, the end is told otherwise
+pub unfinished : (x : Next) (n : ℕ) (end : Place) → ((m : Module) → x ≡ X.Item m → ⊥) → ((o : ForExpr) (p : Part) → x ≡ X.InExpr o p → ⊥) → told n end (finish true (state_of x)) ≡ Err (R.Expected end)
+unfinished (X.InHeader h) n end a b = in_header h n end
+unfinished (X.Item m) n end a b = absurd (a m refl)
+unfinished (X.InHelper h) n end a b = in_helper h n end
+unfinished (X.InParams p) n end a b = in_params p n end
+unfinished (X.InKind o p) n end a b = refl
+unfinished (X.InExpr o p) n end a b = absurd (b o p refl)
+unfinished (X.InHead h) n end a b = in_head h n end
+unfinished (X.InRule p d) n end a b = in_rule p d.before d.rule n end
+unfinished (X.BeforeColon c d x) n end a b = before_colon c d.before d.rule x n end
+unfinished (X.InClass c) n end a b = in_class c n end
+unfinished (X.InTarget p d x) n end a b = in_target p d.before d.rule x n end
+unfinished (X.Gives d x f) n end a b = refl
+unfinished (X.InBlock s) n end a b = in_block s n end

@@ -1,0 +1,83 @@
+// The tokens of a module, one after another.
+ghost use Rattle.std.specs.Prelude.{◌≡◌, ◌+◌, ◌<◌, ◌||◌, MatchResult, drop, length, true, if◌then◌else◌};
+ghost use Rattle.atl_tree.specs.Tokens.{begins_arrow as begins_arrow_of};
+ghost use Rattle.ocl_parse.specs.declared.refusal.ParseRefusal.TheVariants as R;
+ghost use Rattle.module_parse.specs.Marks.{marks};
+ghost use Rattle.module_parse.specs.Machine.{run as run_of};
+ghost use Rattle.module_parse.specs.Reading.{module_in, told, Gives, Fails};
+ghost use Rattle.module_parse.specs.Nexts.{state_of};
+
+use crate::reading::content::{is_other, read_content};
+use crate::reading::finish::finish;
+use crate::reading::next::{Header, Move, Next};
+use crate::reading::step::step;
+use crate::reading::wanted::leave;
+use atl_base::place::Place;
+use atl_tree::judge::{begins_arrow, leads_name};
+use atl_tree::module::Module;
+use atl_tree::token::Token;
+use ocl_parse::refusal::ParseRefusal;
+use std::alloc::Global;
+
+// Whether a plain word at the place is read as a name, where `led` says that the token before leads one.
+fn is_named(tokens: &[Token], at: usize, led: bool) -> bool
+    requires { at < length tokens.now }
+    ensures { result ≡ (led || begins_arrow_of (drop (at + 1) tokens.now)) }
+{
+    led || begins_arrow(&tokens[at + 1..])
+}
+
+// The refusal of a token, where `other` says that it belongs to a unit of another sort.
+fn refusal(other: bool, place: Place) -> ParseRefusal
+    ensures { result ≡ (if other then R.OtherUnit place else R.Expected place) }
+{
+    if other {
+        return ParseRefusal::OtherUnit(place);
+    }
+    ParseRefusal::Expected(place)
+}
+
+// What the i-th token leads to, and whether it leads a name.
+fn advance(
+    alloc: Global,
+    next: Next,
+    tokens: &[Token],
+    i: usize,
+    led: bool,
+    end: Place,
+) -> Result<(Next, bool), ParseRefusal>
+    requires { i < length tokens.now }
+    ensures { MatchResult result
+        (λ r. run_of true (state_of next) (marks led (drop i tokens.now)) ≡ run_of true (state_of r.0) (marks r.1 (drop (i + 1) tokens.now)))
+        (λ e. Fails e (told (length tokens.now) end (run_of true (state_of next) (marks led (drop i tokens.now))))) }
+{
+    let token = &tokens[i];
+    match read_content(alloc, token, is_named(tokens, i, led)) {
+        Ok(content) => {
+            let other = is_other(i == 0, &content);
+            match step(alloc, next, content, token.place)? {
+                Move::Goes(then) => Ok((then, leads_name(token))),
+                Move::Refuses => Err(refusal(other, token.place)),
+                Move::TooDeep(place) => Err(ParseRefusal::TooDeep(place)),
+            }
+        }
+        Err(_) => {
+            leave(next);
+            Err(ParseRefusal::Memory)
+        }
+    }
+}
+
+/// The module of these tokens, before the end of the text.
+pub fn run(alloc: Global, tokens: &[Token], end: Place) -> Result<Module, ParseRefusal>
+    ensures { MatchResult result (λ m. Gives m (module_in tokens.now end)) (λ e. Fails e (module_in tokens.now end)) }
+{
+    let mut next = Next::InHeader(Header::Start);
+    let mut led = false;
+    for i in 0..tokens.len() {
+        let (then, leads) = advance(alloc, next, tokens, i, led, end)?;
+        next = then;
+        led = leads;
+    }
+    finish(alloc, next, end)
+}
