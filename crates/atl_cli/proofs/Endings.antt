@@ -13,7 +13,8 @@ use Rattle.atl_cli.specs.declared.status.Status.TheVariants as status
 use Rattle.atl_cli.specs.declared.status.Size.TheVariants as size
 use Rattle.atl_cli.specs.declared.status.Form.TheVariants as form
 use Rattle.atl_cli.specs.Flat.{flat, item, text_of}
-use Rattle.atl_cli.specs.Answers.{HasSpace, ArePaths, HasModule, HasPaths, HasElements, Judges, OtherModule, OtherNames, OtherSource, ManyObjects, Copies, Ends, Writes, Ended, IsWritten, file_limit, object_limit}
+use Rattle.atl_cli.specs.Transform.{HasSpace, ArePaths, HasModule, HasPaths, HasElements, Judges, OtherModule, OtherNames, OtherSource, ManyObjects, Copies, Ended, IsWritten, object_limit}
+use Rattle.atl_cli.specs.Outcome.{Ends, Writes, file_limit}
 use Rattle.atl_cli.specs.OneRule.{IsModule, is_name, is_reserved}
 use Rattle.atl_cli.specs.Plain.{is_plain_name}
 use Rattle.atl_cli.specs.Source.{IsSource}
@@ -64,6 +65,8 @@ written_ends words path text before after low mid high (status.WriteFault at) so
   subst (λ p. SameElsewhere p before after) (sym w.1) w.2,
   IfSome-map before (λ held g. (text, subst (λ p. Judges words held (Writes p text)) (sym w.1) g)) j,
 )
+written_ends words path text before after low mid high (status.Usage why) some le j w = absurd w
+written_ends words path text before after low mid high (status.Syntax what at) some le j w = absurd w
 written_ends words path text before after low mid high (status.TooLarge what) some le j w = absurd w
 written_ends words path text before after low mid high (status.NotYet what) some le j w = absurd w
 
@@ -76,6 +79,8 @@ Ended-earlier words before middle after low mid high s same le e = more s (subst
     more status.Memory e = e
     more (status.ReadFault path) e = (Rose-earlier low mid high le e.0, e.1, e.2)
     more (status.WriteFault path) e = (Rose-earlier low mid high le e.0, e.1, e.2, e.3)
+    more (status.Usage why) e = e
+    more (status.Syntax what at) e = e
     more (status.TooLarge what) e = e
     more (status.NotYet what) e = e
 

@@ -16,7 +16,8 @@ use Rattle.atl_cli.specs.declared.source.SourceElement.{SourceElement}
 use Rattle.atl_cli.specs.declared.status.Status.TheVariants.{TooLarge, NotYet}
 use Rattle.atl_cli.specs.declared.status.Size.TheVariants.{File, Objects}
 use Rattle.atl_cli.specs.declared.status.Form.TheVariants as form
-use Rattle.atl_cli.specs.Answers.{HasPath, ArePaths, HasModule, HasPaths, HasElements, HasSpace, Outcome, Ends, Writes, Judges, OtherWords, LongModule, OtherModule, OtherNames, LongSource, OtherSource, ManyObjects, Copies, file_limit, object_limit}
+use Rattle.atl_cli.specs.Transform.{HasPath, ArePaths, HasModule, HasPaths, HasElements, HasSpace, Judges, OtherWords, LongModule, OtherModule, OtherNames, LongSource, OtherSource, ManyObjects, Copies, object_limit}
+use Rattle.atl_cli.specs.Outcome.{Outcome, Ends, Writes, file_limit}
 use Rattle.atl_cli.specs.Flat.{flat, text_of}
 use Rattle.atl_cli.specs.OneRule.{IsModule, spelled, made_of}
 use Rattle.atl_cli.specs.Source.{IsSource}

@@ -1,113 +1,60 @@
--- What a call is to answer, where nothing outside fails and memory lasts: by cases on the words, the module, the names of
--- the pairs, the source and the number of its elements, in this order.
-use Rattle.std.specs.Prelude.{◌≡◌, ◌≢◌, ◌⊎◌, ℕ, ◌≤◌, ◌<◌, List, [], ◌++◌, Option, IfSome, length, Contains, IsTrue, codes}
+-- What a call is to answer: by its first word, and then as that command says.
+use Rattle.std.specs.Prelude.{◌≡◌, ◌⊎◌, ℕ, List, [], ◌∷◌, ◌++◌, Option, None, Some}
 use Rattle.std.specs.Option.{option_map}
-use Rattle.atl_outside.specs.Held.{Held, bytes_at, with_content, SameElsewhere}
+use Rattle.atl_outside.specs.Held.{Held}
 use Rattle.atl_outside.specs.Rose.{Rose}
 use Rattle.atl_outside.specs.Taken.{TakesFront}
-use Rattle.atl_cli.specs.declared.words.Pair.{Pair}
-use Rattle.atl_cli.specs.declared.words.Request.{Request}
-use Rattle.atl_cli.specs.declared.one_rule.OneRule.{OneRule}
-use Rattle.atl_cli.specs.declared.source.SourceElement.{SourceElement}
+use Rattle.atl_cli.specs.declared.command.Command.{Command}
+use Rattle.atl_cli.specs.declared.command.Command.TheVariants as C
+use Rattle.atl_cli.specs.declared.command.Misuse.TheVariants.{NoCommand, UnknownCommand}
+use Rattle.atl_cli.specs.declared.status.Ending.{Ending}
+use Rattle.atl_cli.specs.declared.status.Ending.TheVariants as ending
+use Rattle.atl_cli.specs.declared.status.Form.TheVariants.{Words}
 use Rattle.atl_cli.specs.declared.status.Status.{Status}
-use Rattle.atl_cli.specs.declared.status.Status.TheVariants.{TooLarge, NotYet}
 use Rattle.atl_cli.specs.declared.status.Status.TheVariants as status
-use Rattle.atl_cli.specs.declared.status.Size.TheVariants.{File, Objects}
-use Rattle.atl_cli.specs.declared.status.Form.TheVariants as form
-use Rattle.atl_cli.specs.Flat.{flat, text_of}
-use Rattle.atl_cli.specs.OneRule.{IsModule}
-use Rattle.atl_cli.specs.Plain.{is_plain_name}
-use Rattle.atl_cli.specs.Source.{IsSource}
-use Rattle.atl_cli.specs.Status.{line_of}
-use Rattle.atl_cli.specs.Words.{IsRequest}
+use Rattle.atl_cli.specs.Commands.{command_of}
+use Rattle.atl_cli.specs.Format as format
+use Rattle.atl_cli.specs.Outcome.{Outcome, Ends, status_of, said}
+use Rattle.atl_cli.specs.Transform as transform
 
--- the source's metamodel names a namespace other than XMI's
-pub record HasSpace (m : OneRule) : Type 0 where
-  pub name : IsTrue (is_plain_name m.source_metamodel)
-  pub other : m.source_metamodel ≢ codes "xmi"
+-- ---- where nothing outside fails and memory lasts
 
--- the path that a pair gives to a name
-abbrev pub HasPath : List Pair → List ℕ → List ℕ → Type 0
-HasPath pairs name path = Contains pairs (record { name = name; path = path })
+abbrev pub JudgesBy : Option Command → List ℕ → List (List ℕ) → Held → Outcome → Type 0
+JudgesBy None word words held o = o ≡ Ends (status.Usage (UnknownCommand word))
+JudgesBy (Some C.Unbuilt) word words held o = o ≡ Ends (status.NotYet Words)
+JudgesBy (Some C.Transform) word words held o = transform.Judges (word ∷ words) held o
+JudgesBy (Some C.Format) word words held o = format.Judges words held o
 
--- The names of the pairs are the four of the module's header; these are the paths of its models.
-pub record ArePaths (m : OneRule) (pairs : List Pair) (target source : List ℕ) : Type 0 where
-  pub to_target : HasPath pairs m.target target
-  pub to_target_metamodel : (path : List ℕ) × HasPath pairs m.target_metamodel path
-  pub to_source : HasPath pairs m.source source
-  pub to_source_metamodel : (path : List ℕ) × HasPath pairs m.source_metamodel path
+-- What the words come to, where the files hold these contents.
+abbrev pub Judges : List (List ℕ) → Held → Outcome → Type 0
+Judges [] held o = o ≡ Ends (status.Usage NoCommand)
+Judges (word ∷ words) held o = JudgesBy (command_of word) word words held o
 
--- a file's limit in bytes, and a source's in objects
-abbrev pub file_limit : ℕ
-file_limit = 67108864
+-- ---- with failures
 
-abbrev pub object_limit : ℕ
-object_limit = 1000000
+-- with this status, or for want of memory, and no file is changed
+abbrev pub EndsBy : Status → Option Held → Option Held → Ending → Type 0
+EndsBy end before after e = (after ≡ before) × ((e ≡ ending.Ends end) ⊎ (e ≡ ending.Ends status.Memory))
 
--- the words are a request, and its module is held
-pub record HasModule (words : List (List ℕ)) (held : Held) (r : Request) (m : OneRule) : Type 0 where
-  pub request : IsRequest words r
-  pub short : length (bytes_at held r.module) ≤ file_limit
-  pub is : IsModule (bytes_at held r.module) m
+-- `transform` ends with a status, and has no other text to put out
+abbrev pub Transformed : List (List ℕ) → Option Held → Option Held → ℕ → ℕ → Ending → Type 0
+Transformed words before after low high (ending.Ends end) = transform.Ended words before after low high end
+Transformed words before after low high (ending.Prints text) = ⊥
 
--- and the pairs name its models
-pub record HasPaths (words : List (List ℕ)) (held : Held) (m : OneRule) (target source : List ℕ) : Type 0 where
-  pub of : Request
-  pub opened : HasModule words held of m
-  pub paths : ArePaths m of.pairs target source
+abbrev pub EndedBy : Option Command → List ℕ → List (List ℕ) → Option Held → Option Held → ℕ → ℕ → Ending → Type 0
+EndedBy None word words before after low high e = EndsBy (status.Usage (UnknownCommand word)) before after e
+EndedBy (Some C.Unbuilt) word words before after low high e = EndsBy (status.NotYet Words) before after e
+EndedBy (Some C.Transform) word words before after low high e = Transformed (word ∷ words) before after low high e
+EndedBy (Some C.Format) word words before after low high e = (after ≡ before) × format.Ended words before low high e
 
--- and its source is held
-pub record HasElements (words : List (List ℕ)) (held : Held) (m : OneRule) (target : List ℕ) (es : List SourceElement) : Type 0 where
-  pub at : List ℕ
-  pub paths : HasPaths words held m target at
-  pub short : length (bytes_at held at) ≤ file_limit
-  pub elements : IsSource m.source_metamodel (bytes_at held at) es
+-- How a run over files ends, before anything is put out: the files' content and count of faults before, and after it.
+abbrev pub Ended : List (List ℕ) → Option Held → Option Held → ℕ → ℕ → Ending → Type 0
+Ended [] before after low high e = EndsBy (status.Usage NoCommand) before after e
+Ended (word ∷ words) before after low high e = EndedBy (command_of word) word words before after low high e
 
--- the answer: a status that ends the call, or the text that is written at a path
-pub data Outcome : Type 0 where
-  Ends : Status → Outcome
-  Writes : List ℕ → List ℕ → Outcome
-
--- Which it is, where the files hold these contents.
-pub data Judges (words : List (List ℕ)) (held : Held) : Outcome → Type 0 where
-  OtherWords : ((r : Request) → IsRequest words r → ⊥) → Judges words held (Ends (NotYet form.Words))
-  LongModule : (r : Request) → IsRequest words r → file_limit < length (bytes_at held r.module) → Judges words held (Ends (TooLarge File))
-  OtherModule : (r : Request) → IsRequest words r → length (bytes_at held r.module) ≤ file_limit
-      → ((m : OneRule) → IsModule (bytes_at held r.module) m → ⊥) → Judges words held (Ends (NotYet form.Module))
-  OtherNames : (r : Request) (m : OneRule) → HasModule words held r m
-      → ((target source : List ℕ) → ArePaths m r.pairs target source → ⊥) → Judges words held (Ends (NotYet form.Words))
-  LongSource : (m : OneRule) (target source : List ℕ) → HasPaths words held m target source → file_limit < length (bytes_at held source) → Judges words held (Ends (TooLarge File))
-  OtherSource : (m : OneRule) (target source : List ℕ) → HasPaths words held m target source → length (bytes_at held source) ≤ file_limit
-      → ((es : List SourceElement) → IsSource m.source_metamodel (bytes_at held source) es → ⊥) → Judges words held (Ends (NotYet form.Model))
-  ManyObjects : (m : OneRule) (target : List ℕ) (es : List SourceElement) → HasElements words held m target es → object_limit < length es → Judges words held (Ends (TooLarge Objects))
-  Copies : (m : OneRule) (target : List ℕ) (es : List SourceElement) → HasElements words held m target es → length es ≤ object_limit
-      → Judges words held (Writes target (text_of m (flat m es)))
-
--- a path that is read
-abbrev pub IsRead : List (List ℕ) → Held → List ℕ → Type 0
-IsRead words held path = ((r : Request) × IsRequest words r × (path ≡ r.module)) ⊎ ((m : OneRule) × (target : List ℕ) × HasPaths words held m target path)
-
--- how the one write of a text at a path ends a run
-abbrev pub IsWritten : List ℕ → List ℕ → Option Held → Option Held → ℕ → ℕ → Status → Type 0
-IsWritten path text before after low high status.Ok = after ≡ option_map (λ held. with_content held path text) before
-IsWritten path text before after low high status.Memory = ⊥
-IsWritten path text before after low high (status.ReadFault at) = ⊥
-IsWritten path text before after low high (status.WriteFault at) = Rose low high × (at ≡ path) × SameElsewhere path before after
-IsWritten path text before after low high (status.TooLarge what) = ⊥
-IsWritten path text before after low high (status.NotYet what) = ⊥
-
--- How a run over files ends, before its line is put out: the files' content and count of faults before, and after it.
-abbrev pub Ended : List (List ℕ) → Option Held → Option Held → ℕ → ℕ → Status → Type 0
-Ended words before after low high status.Ok = (path : List ℕ) × (text : List ℕ) × IfSome before (λ held. Judges words held (Writes path text)) × (after ≡ option_map (λ held. with_content held path text) before)
-Ended words before after low high status.Memory = after ≡ before
-Ended words before after low high (status.ReadFault path) = Rose low high × (after ≡ before) × IfSome before (λ held. IsRead words held path)
-Ended words before after low high (status.WriteFault path) = Rose low high × (path ≢ []) × SameElsewhere path before after × IfSome before (λ held. (text : List ℕ) × Judges words held (Writes path text))
-Ended words before after low high (status.TooLarge what) = (after ≡ before) × IfSome before (λ held. Judges words held (Ends (TooLarge what)))
-Ended words before after low high (status.NotYet what) = (after ≡ before) × IfSome before (λ held. Judges words held (Ends (NotYet what)))
-
--- How its line is told: whole; or in part, where the sink failed; or not at all, where memory was refused.
-abbrev pub Told : Option (List ℕ) → Option (List ℕ) → ℕ → ℕ → Status → Status → Type 0
-Told before after low high end result =
-    ((result ≡ end) × (after ≡ option_map (λ taken. taken ++ line_of end) before))
-    ⊎ ((result ≡ status.WriteFault []) × Rose low high × TakesFront (line_of end) before after)
+-- What it says is put out: whole; or in part, where the sink failed; or not at all, where memory was refused.
+abbrev pub Told : Option (List ℕ) → Option (List ℕ) → ℕ → ℕ → Ending → Status → Type 0
+Told before after low high e result =
+    ((result ≡ status_of e) × (after ≡ option_map (λ taken. taken ++ said e) before))
+    ⊎ ((result ≡ status.WriteFault []) × Rose low high × TakesFront (said e) before after)
     ⊎ ((result ≡ status.Memory) × (after ≡ before))

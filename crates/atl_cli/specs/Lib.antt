@@ -1,7 +1,13 @@
 pub mod Answers
+pub mod Commands
 pub mod Flat
+pub mod Format
 pub mod OneRule
+pub mod OperandCommand
+pub mod Operands
+pub mod Outcome
 pub mod Plain
 pub mod Source
 pub mod Status
+pub mod Transform
 pub mod Words

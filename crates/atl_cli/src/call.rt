@@ -1,36 +1,68 @@
-// The top call: a command over files, and its line over a sink.
-ghost use Rattle.std.specs.Prelude.{◌≡◌, ℕ, List};
+// The top call: a command over files, and what it puts out over a sink.
+ghost use Rattle.std.specs.Prelude.{◌≡◌, ℕ, List, IfOk, OnErr};
 ghost use Rattle.atl_outside.specs.Held.{Held};
-ghost use Rattle.atl_cli.specs.Answers.{Ended, Judges, Outcome, Told};
-ghost use Rattle.atl_cli.specs.declared.status.Status.{Status as SomeStatus};
+ghost use Rattle.atl_cli.specs.Answers.{Ended, Judges, Told};
+ghost use Rattle.atl_cli.specs.Outcome.{Outcome, said, status_of};
+ghost use Rattle.atl_cli.specs.declared.status.Ending.{Ending as SomeEnding};
 
-use crate::status::Status;
+use crate::command::{Command, Misuse, command_of};
+use crate::format::format_file;
+use crate::status::{Ending, Form, Status};
 use crate::transform::transform;
 use atl_base::steps::Steps;
 use atl_base::text::Text;
 use atl_outside::files::Files;
 use atl_outside::sink::{Sink, SinkFault};
-use std::alloc::Global;
+use std::alloc::{AllocError, Global};
 use std::sync::ledger::Ledger;
 
-// Puts out the line of the status that ends the call.
-fn report<K: Sink>(alloc: Global, end: Status, out: &mut K) -> Status
+// What a run over files comes to, as its status and what it puts out.
+fn told(alloc: Global, end: Ending) -> Result<(Status, Text), AllocError>
+    ensures { IfOk result (λ told. (told.0 ≡ status_of end) × (told.1 ≡ said end)) }
+{
+    match end {
+        Ending::Prints(text) => Ok((Status::Ok, text)),
+        Ending::Ends(status) => {
+            let line = status.line(alloc)?;
+            Ok((status, line))
+        }
+    }
+}
+
+// Puts out what a run says.
+fn report<K: Sink>(alloc: Global, end: Ending, out: &mut K) -> Status
     ensures { Told (K.taken out.old) (K.taken out.new) (K.faults out.old) (K.faults out.new) end result }
 {
-    let Ok(line) = end.line(alloc) else {
+    let Ok((status, text)) = told(alloc, end) else {
         return Status::Memory;
     };
-    if line.bytes().is_empty() {
-        return end;
+    if text.bytes().is_empty() {
+        return status;
     }
-    match out.put(alloc, line.bytes()) {
-        Ok(()) => end,
+    match out.put(alloc, text.bytes()) {
+        Ok(()) => status,
         Err(SinkFault::Failed) => Status::WriteFault(Text::new(alloc)),
         Err(SinkFault::Memory) => Status::Memory,
     }
 }
 
-/// Runs the command that the words name over the files, and puts its line out. It counts no steps yet.
+// Runs the command that the words name over the files.
+fn run<F: Files>(alloc: Global, words: &[Text], files: &mut F) -> Result<Ending, AllocError>
+    ensures ended { IfOk result (λ e. Ended words.now (F.held files.old) (F.held files.new) (F.faults files.old) (F.faults files.new) e) }
+    ensures memory { OnErr result (F.held files.new ≡ F.held files.old) }
+{
+    let [word, rest @ ..] = words else {
+        return Ok(Ending::Ends(Status::Usage(Misuse::NoCommand)));
+    };
+    match command_of(word) {
+        Some(Command::Transform) => Ok(Ending::Ends(transform(alloc, words, files)?)),
+        Some(Command::Format) => format_file(alloc, rest, files),
+        Some(Command::Unbuilt) => Ok(Ending::Ends(Status::NotYet(Form::Words))),
+        None => Ok(Ending::Ends(Status::Usage(Misuse::UnknownCommand(word.copy(alloc)?)))),
+    }
+}
+
+/// Runs the command that the words name over the files, and puts out what it says. It counts no steps yet.
 pub fn atl<F: Files, K: Sink, L: Ledger>(
     alloc: Global,
     words: &[Text],
@@ -38,15 +70,15 @@ pub fn atl<F: Files, K: Sink, L: Ledger>(
     out: &mut K,
     steps: &mut Steps<L>,
 ) -> Status
-    // The run over the files ends with a status, and the sink tells it.
-    ensures answer { (end : SomeStatus) × Ended words.now (F.held files.old) (F.held files.new) (F.faults files.old) (F.faults files.new) end
+    // The run over the files ends, and the sink tells how.
+    ensures answer { (end : SomeEnding) × Ended words.now (F.held files.old) (F.held files.new) (F.faults files.old) (F.faults files.new) end
         × Told (K.taken out.old) (K.taken out.new) (K.faults out.old) (K.faults out.new) end result }
     ensures steps { steps.new ≡ steps.old }
 {
     let _ = steps;
-    let end = match transform(alloc, words, files) {
+    let end = match run(alloc, words, files) {
         Ok(end) => end,
-        Err(_) => Status::Memory,
+        Err(_) => Ending::Ends(Status::Memory),
     };
     report(alloc, end, out)
 }

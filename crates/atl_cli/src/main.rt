@@ -4,11 +4,15 @@
 ghost use Rattle.std.specs.Prelude.{◌≡◌, ◌<◌};
 
 mod call;
+mod command;
 mod flat;
+mod format;
 mod one_rule;
+mod operands;
 mod plain;
 mod source;
 mod status;
+mod syntax;
 #[cfg(test)]
 mod tests;
 mod transform;

@@ -279,8 +279,8 @@ fn words_and_modules_are_refused(rt: HostRuntime) -> Result<(), Fail> {
         ends(
             "grow M.atl A=a B=b IN=in.xmi OUT=out.xmi",
             MODULE,
-            15,
-            words,
+            2,
+            "2 Usage: UnknownCommand grow\n",
         ),
     ];
     for row in &rows {

@@ -1,6 +1,6 @@
 // The command `transform`: reads the module and the source, and writes the target.
 ghost use Rattle.std.specs.Prelude.{◌≡◌, ◌≢◌, ◌⊎◌, ℕ, [], ◌≤◌, List, IfOk, IfSome, IsErr, OnErr, MatchOption, All, map, length};
-ghost use Rattle.atl_cli.specs.Answers.{ArePaths, HasPath, HasPaths, HasSpace, Ended, IsWritten};
+ghost use Rattle.atl_cli.specs.Transform.{ArePaths, HasPath, HasPaths, HasSpace, Ended, IsWritten};
 ghost use Rattle.atl_cli.specs.Flat.{flat, item};
 ghost use Rattle.atl_cli.specs.Source.{IsSource};
 ghost use Rattle.atl_cli.specs.declared.source.SourceElement.{SourceElement as SomeElement};
@@ -16,7 +16,7 @@ use atl_outside::files::{FileFault, Files};
 use std::alloc::{AllocError, Global};
 
 /// How many bytes a file has at most.
-const FILE_LIMIT: u64 = 67_108_864;
+pub(crate) const FILE_LIMIT: u64 = 67_108_864;
 
 /// How many objects a source has at most.
 const OBJECT_LIMIT: usize = 1_000_000;
@@ -65,7 +65,11 @@ fn read_paths(alloc: Global, rule: &OneRule, pairs: &[Pair]) -> Result<Option<Pa
 }
 
 // How a read that gave no bytes ends the call.
-fn after_read_fault(alloc: Global, fault: FileFault, path: &Text) -> Result<Status, AllocError>
+pub(crate) fn after_read_fault(
+    alloc: Global,
+    fault: FileFault,
+    path: &Text,
+) -> Result<Status, AllocError>
     ensures failed { fault ≡ FileFault.Failed → IfOk result (λ s. s ≡ Status.ReadFault path.now) }
     ensures too_big { fault ≡ FileFault.TooBig → IfOk result (λ s. s ≡ Status.TooLarge Size.File) }
     ensures memory { fault ≡ FileFault.Memory → IsErr result }

@@ -1,6 +1,6 @@
 use Rattle.std.proofs.Common.{inl, Err, Option, IfSome, MatchOption, List, ℕ, ap, sym, subst, refl}
 use Rattle.atl_cli.specs.declared.one_rule.OneRule.{OneRule}
-use Rattle.atl_cli.specs.Answers.{LongModule, ArePaths, HasPaths, Ended}
+use Rattle.atl_cli.specs.Transform.{LongModule, ArePaths, HasPaths, Ended}
 use Rattle.atl_cli.specs.OneRule.{IsModule}
 use Rattle.atl_cli.specs.declared.words.Pair.{Pair}
 use Rattle.atl_cli.specs.declared.transform.Paths.{Paths}

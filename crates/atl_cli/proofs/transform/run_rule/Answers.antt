@@ -1,6 +1,6 @@
 use Rattle.std.proofs.Common.{inr, Err, MatchOption, ap, subst, ◌∙◌}
 use Rattle.std.specs.Prelude.{map}
-use Rattle.atl_cli.specs.Answers.{LongSource, Ended, IsWritten}
+use Rattle.atl_cli.specs.Transform.{LongSource, Ended, IsWritten}
 use Rattle.atl_cli.specs.Flat.{item, text_of}
 use Rattle.atl_cli.proofs.Endings.{IfSome-map, IfSome-both, IfOk-map, after_fault, written_ends, NoElements, KeepsElements, other_source, many_objects, copied}
 use Rattle.atl_cli.proofs.transform.run_rule.Goals as goal

@@ -1,5 +1,5 @@
 use Rattle.std.proofs.Common.{MatchOption, Option, List, ℕ, subst, refl}
-use Rattle.atl_cli.specs.Answers.{OtherWords}
+use Rattle.atl_cli.specs.Transform.{OtherWords}
 use Rattle.atl_cli.specs.Words.{IsRequest}
 use Rattle.atl_cli.specs.declared.words.Request.{Request}
 use Rattle.atl_cli.proofs.Endings.{IfSome-always}
