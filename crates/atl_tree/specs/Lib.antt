@@ -1,4 +1,5 @@
 pub mod Cutting
+pub mod Front
 pub mod Machine
 pub mod Pieces
 pub mod Refusals

@@ -57,8 +57,8 @@ pub fn begins_arrow(tokens: &[Token]) -> bool
     }
 }
 
-// Why the token is refused; a plain word may stand where it is read as a name.
-fn fault(token: &Token, named: bool) -> Option<LexRefusal>
+/// Why the token is refused; a plain word may stand where it is read as a name.
+pub(crate) fn fault(token: &Token, named: bool) -> Option<LexRefusal>
     ensures { result ≡ fault_of token.now.sort token.now.text named token.now.place }
 {
     let real = match token.sort {

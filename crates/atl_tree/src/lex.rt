@@ -10,8 +10,8 @@ use crate::token::{LexRefusal, Tokens};
 use atl_base::text::Text;
 use std::alloc::Global;
 
-// How many bytes the byte order mark takes that the text may begin with.
-fn mark_length(text: &str) -> usize
+/// How many bytes the byte order mark takes that the text may begin with.
+pub(crate) fn mark_length(text: &str) -> usize
     ensures { result ≡ begin_byte (chars text.now) }
 {
     match text.chars().next() {

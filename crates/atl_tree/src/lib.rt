@@ -3,6 +3,7 @@
 
 mod cursor;
 pub mod expr;
+pub mod front;
 pub mod judge;
 pub mod kind;
 pub mod laws;

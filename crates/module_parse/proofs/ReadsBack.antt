@@ -5,6 +5,7 @@ use Rattle.atl_base.specs.declared.place.Place.{Place}
 use Rattle.atl_tree.specs.declared.token.Tokens.{Tokens}
 use Rattle.atl_tree.specs.declared.token.LexRefusal.{LexRefusal}
 use Rattle.atl_tree.specs.declared.module.Module.{Module}
+use Rattle.atl_tree.specs.Front.{front_of}
 use Rattle.atl_tree.specs.Tokens.{tokens_of}
 use Rattle.ocl_parse.specs.declared.refusal.ParseRefusal.{ParseRefusal}
 use Rattle.module_parse.specs.Marks.{marks}
@@ -42,7 +43,7 @@ IsFrom text m = (l : Tokens) × (tokens_of text ≡ Ok l) × (read true (marks f
 from_tokens : (text : List ℕ) (m : Module) → module_of_text text ≡ Ok m → IsFrom text m
 from_tokens text m h = on (tokens_of text) refl h
   where
-    on : (r : Result Tokens LexRefusal) → tokens_of text ≡ r → parsed r ≡ Ok m → IsFrom text m
+    on : (r : Result Tokens LexRefusal) → tokens_of text ≡ r → parsed (front_of text) r ≡ Ok m → IsFrom text m
     on (Ok l) q k = (l, q, told_so (length l.list) l.end (read true (marks false l.list)) m k)
     on (Err e) q k = absurd cc
 
@@ -85,7 +86,7 @@ read_back m w fits cs e =
     let ts = marks false tokens.0.list in
     let y = keep_module (module_written m) ts tokens.2 in
     let is_read = accepts true ts (module_tree y.y) (y.y, y.kept true fits, y.same, refl) in
-    (module_tree y.y, ap parsed tokens.1 ∙ ap (told (length tokens.0.list) tokens.0.end) is_read, same_tree m w y.y fine.1 y.away)
+    (module_tree y.y, ap (parsed (front_of cs)) tokens.1 ∙ ap (told (length tokens.0.list) tokens.0.end) is_read, same_tree m w y.y fine.1 y.away)
 
 pub read_again : (text : List ℕ) → IsReadAgain text
 read_again text m h cs e = read_back m (gives_well_formed text m h) (stays_shallow text m h) cs e

@@ -1,10 +1,12 @@
 -- What the reading of a text gives: its module, or the first refusal.
-use Rattle.std.specs.Prelude.{◌≡◌, ℕ, ◌==◌, Bool, true, false, List, [], ◌∷◌, length, Result, Ok, Err, if◌then◌else◌}
+use Rattle.std.specs.Prelude.{◌≡◌, ℕ, ◌==◌, ◌&&◌, Bool, true, false, List, [], ◌∷◌, length, Result, Ok, Err, if◌then◌else◌}
 use Rattle.atl_base.specs.declared.place.Place.{Place}
 use Rattle.atl_tree.specs.declared.token.Token.{Token}
 use Rattle.atl_tree.specs.declared.token.Tokens.{Tokens}
 use Rattle.atl_tree.specs.declared.token.LexRefusal.{LexRefusal}
+use Rattle.atl_tree.specs.declared.token.LexRefusal.TheVariants as L
 use Rattle.atl_tree.specs.declared.module.Module.{Module}
+use Rattle.atl_tree.specs.Front.{front_of}
 use Rattle.atl_tree.specs.Tokens.{tokens_of}
 use Rattle.ocl_parse.specs.declared.refusal.ParseRefusal.{ParseRefusal}
 use Rattle.ocl_parse.specs.declared.refusal.ParseRefusal.TheVariants as R
@@ -34,13 +36,33 @@ told n end (Deep p) = Err (R.TooDeep p)
 abbrev pub module_in : List Token → Place → Result Module ParseRefusal
 module_in ts end = told (length ts) end (read true (marks false ts))
 
-abbrev pub parsed : Result Tokens LexRefusal → Result Module ParseRefusal
-parsed (Ok ts) = module_in ts.list ts.end
-parsed (Err e) = Err (R.Lex e)
+abbrev pub is_at : Place → Place → Bool
+is_at p q = p.line == q.line && p.column == q.column
+
+-- a refusal at a place, unless what stands before the place is refused
+abbrev pub unless_before : ParseRefusal → Place → Result Module ParseRefusal → ParseRefusal
+unless_before e p (Ok m) = e
+unless_before e p (Err (R.Lex f)) = e
+unless_before e p (Err (R.OtherUnit q)) = R.OtherUnit q
+unless_before e p (Err (R.Expected q)) = if is_at q p then e else R.Expected q
+unless_before e p (Err (R.TooDeep q)) = R.TooDeep q
+unless_before e p (Err R.Memory) = e
+
+-- the first refusal of a text that has no tokens, where these stand before the token that is refused
+abbrev pub first_refusal : List Token → LexRefusal → ParseRefusal
+first_refusal ts (L.BadByte p) = unless_before (R.Lex (L.BadByte p)) p (module_in ts p)
+first_refusal ts (L.OpenText p) = unless_before (R.Lex (L.OpenText p)) p (module_in ts p)
+first_refusal ts (L.WideNumber p) = unless_before (R.Lex (L.WideNumber p)) p (module_in ts p)
+first_refusal ts (L.RealNumber p) = unless_before (R.Lex (L.RealNumber p)) p (module_in ts p)
+first_refusal ts L.Memory = R.Memory
+
+abbrev pub parsed : List Token → Result Tokens LexRefusal → Result Module ParseRefusal
+parsed front (Ok ts) = module_in ts.list ts.end
+parsed front (Err e) = Err (first_refusal front e)
 
 -- the module of a text's characters
 abbrev pub module_of_text : List ℕ → Result Module ParseRefusal
-module_of_text text = parsed (tokens_of text)
+module_of_text text = parsed (front_of text) (tokens_of text)
 
 -- a refusal that was answered is the one; want of memory says nothing of the text
 abbrev pub Fails : ParseRefusal → Result Module ParseRefusal → Type 0

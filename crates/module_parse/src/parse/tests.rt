@@ -646,7 +646,28 @@ fn the_first_refusal_is_answered(rt: HostRuntime) -> Result<(), Fail> {
             "Expected 1:64",
         ),
         ("module M $", "Lex(BadByte(Place { line: 1, column: 10 }))"),
-        ("query 'a", "Lex(OpenText(Place { line: 1, column: 7 }))"),
+        (
+            "module M; 'a",
+            "Lex(OpenText(Place { line: 1, column: 11 }))",
+        ),
+        ("query 'a", "OtherUnit 1:1"),
+        ("module M N $", "Expected 1:10"),
+        (
+            "module M; create O : B from I : A; helper def: f : Real = 1 }; / 1.5",
+            "Lex(RealNumber(Place { line: 1, column: 52 }))",
+        ),
+        (
+            "module M; create O : B from I : A; helper def: f : Integer = 1 }; / 1.5",
+            "Expected 1:64",
+        ),
+        (
+            "module M; create O : B from I : A; helper def: f : Integer = 1 / 2;",
+            "Lex(RealNumber(Place { line: 1, column: 64 }))",
+        ),
+        (
+            "module 99999999999999999999",
+            "Lex(WideNumber(Place { line: 1, column: 8 }))",
+        ),
         (
             "module M; create O : B from I : A;\nhelper def: f : Real = 1;",
             "Lex(RealNumber(Place { line: 2, column: 17 }))",
