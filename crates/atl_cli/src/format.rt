@@ -56,11 +56,11 @@ fn is_rule(item: &Item) -> bool
     }
 }
 
-fn rule_count(module: &Module) -> usize
-    ensures { result ≡ rule_count_of module.now }
+fn rule_count(parsed: &Module) -> usize
+    ensures { result ≡ rule_count_of parsed.now }
 {
     let mut count: usize = 0;
-    for item in module.items.as_slice() {
+    for item in parsed.items.as_slice() {
         if is_rule(item) {
             count += 1;
         }
@@ -69,13 +69,13 @@ fn rule_count(module: &Module) -> usize
 }
 
 // Prints a module that has not too many rules.
-fn print(alloc: Global, module: &Module) -> Result<Ending, AllocError>
-    ensures { IfOk result (λ e. outcome_of e ≡ text_outcome (Ok module.now)) }
+fn print(alloc: Global, parsed: &Module) -> Result<Ending, AllocError>
+    ensures { IfOk result (λ e. outcome_of e ≡ text_outcome (Ok parsed.now)) }
 {
-    if rule_count(module) > RULE_LIMIT {
+    if rule_count(parsed) > RULE_LIMIT {
         return Ok(Ending::Ends(Status::TooLarge(Size::Rules)));
     }
-    Ok(Ending::Prints(print_module(alloc, module)?))
+    Ok(Ending::Prints(print_module(alloc, parsed)?))
 }
 
 // Prints the module of a text.
@@ -84,7 +84,7 @@ fn format_text(alloc: Global, text: &Text) -> Result<Ending, AllocError>
     ensures { IfOk result (λ e. outcome_of e ≡ text_outcome (module_of_text (chars text.now))) }
 {
     match parse_module(alloc, text) {
-        Ok(module) => print(alloc, &module),
+        Ok(parsed) => print(alloc, &parsed),
         Err(ParseRefusal::Memory) => Err(AllocError),
         Err(refusal) => Ok(Ending::Ends(syntax_status(refusal))),
     }
