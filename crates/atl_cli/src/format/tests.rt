@@ -276,9 +276,12 @@ fn number_of<L: Ledger>(alloc: Global, rules: usize, blank: Blank) -> Result<u8,
 #[test]
 fn rules_are_counted(rt: HostRuntime) -> Result<(), Fail> {
     let alloc = rt.alloc();
-    let few = number_of::<Brand>(alloc, 1000, Blank::new(1))?;
-    assert_eq!(rt; few, 0);
-    let many = number_of::<Brand>(alloc, 1001, Blank::new(1))?;
-    assert_eq!(rt; many, 14);
+    for (rules, number) in [(1000, 0), (1001, 14)] {
+        assert_eq!(rt;
+            number_of::<Brand>(alloc, rules, Blank::new(1))?,
+            number,
+            "{rules} rules"
+        );
+    }
     Ok(())
 }
