@@ -9,6 +9,8 @@ use atl_tree::name::{ClassRef, Name};
 use std::alloc::AllocError;
 use std::test::Fail;
 
+const HEADER: &str = "module M; create O : B from I : A;";
+
 fn show_place(out: &mut String, place: Place) -> Result<(), AllocError> {
     let Place { line, column } = place;
     write!(out, "@{line}:{column}")
@@ -244,23 +246,58 @@ fn read(alloc: Global, text: &str) -> Result<Result<Module, ParseRefusal>, Fail>
     Ok(parse_module(alloc, &text))
 }
 
-// The refusal of a text as `Expected 1:9`, or `Read`.
+// A refusal as `Expected 1:9`.
+fn show_refusal(out: &mut String, refusal: ParseRefusal) -> Result<(), AllocError> {
+    match refusal {
+        ParseRefusal::Lex(LexRefusal::BadByte(p)) => write!(out, "BadByte {}:{}", p.line, p.column),
+        ParseRefusal::Lex(LexRefusal::OpenText(p)) => write!(
+            out,
+            "OpenText {}:{}",
+            p.line, p.column
+        ),
+        ParseRefusal::Lex(LexRefusal::WideNumber(p)) => write!(
+            out,
+            "WideNumber {}:{}",
+            p.line, p.column
+        ),
+        ParseRefusal::Lex(LexRefusal::RealNumber(p)) => write!(
+            out,
+            "RealNumber {}:{}",
+            p.line, p.column
+        ),
+        ParseRefusal::OtherUnit(p) => write!(out, "OtherUnit {}:{}", p.line, p.column),
+        ParseRefusal::Expected(p) => write!(out, "Expected {}:{}", p.line, p.column),
+        ParseRefusal::TooDeep(p) => write!(out, "TooDeep {}:{}", p.line, p.column),
+        ParseRefusal::Lex(LexRefusal::Memory) | ParseRefusal::Memory => out.push_str("Memory"),
+    }
+}
+
+// The refusal of a text, or `Read`.
 fn refused(alloc: Global, text: &str) -> Result<String, Fail> {
     let mut out = String::new(alloc);
     match read(alloc, text)? {
         Ok(_) => out.push_str("Read")?,
-        Err(ParseRefusal::Expected(p)) => write!(out, "Expected {}:{}", p.line, p.column)?,
-        Err(ParseRefusal::OtherUnit(p)) => write!(out, "OtherUnit {}:{}", p.line, p.column)?,
-        Err(ParseRefusal::TooDeep(p)) => write!(out, "TooDeep {}:{}", p.line, p.column)?,
-        Err(other) => write!(out, "{other:?}")?,
+        Err(refusal) => show_refusal(&mut out, refusal)?,
     }
     Ok(out)
 }
 
-// The tree of a text behind a header of one line.
-fn shown(alloc: Global, items: &str) -> Result<String, Fail> {
-    let mut text = String::from_str(alloc, "module M; create O : B from I : A;\n")?;
+// A text of these items behind a header of one line.
+fn with_header(alloc: Global, items: &str) -> Result<String, AllocError> {
+    let mut text = String::from_str(alloc, HEADER)?;
+    text.push_str("\n")?;
     text.push_str(items)?;
+    Ok(text)
+}
+
+// The refusal of such a text.
+fn refused_items(alloc: Global, items: &str) -> Result<String, Fail> {
+    refused(alloc, with_header(alloc, items)?.as_str())
+}
+
+// The tree of such a text.
+fn shown(alloc: Global, items: &str) -> Result<String, Fail> {
+    let text = with_header(alloc, items)?;
     let mut out = String::new(alloc);
     if let Ok(module) = read(alloc, text.as_str())? {
         show_module(&mut out, &module)?;
@@ -348,7 +385,7 @@ fn modules_have_their_trees(rt: HostRuntime) -> Result<(), Fail> {
 }
 
 #[test]
-fn the_first_refusal_is_answered(rt: HostRuntime) -> Result<(), Fail> {
+fn headers_are_refused(rt: HostRuntime) -> Result<(), Fail> {
     let cases = [
         ("module X", "Expected 1:9"),
         ("", "Expected 1:1"),
@@ -373,312 +410,179 @@ fn the_first_refusal_is_answered(rt: HostRuntime) -> Result<(), Fail> {
         ("refining", "OtherUnit 1:1"),
         ("module X; uses l; create", "OtherUnit 1:11"),
         ("module X; create O : B refining I : A;", "OtherUnit 1:24"),
-        (
-            "module M; create O : B from I : A; uses x;",
-            "OtherUnit 1:36",
-        ),
-        (
-            "module M; create O : B from I : A; helper def: f : Integer = uses;",
-            "OtherUnit 1:62",
-        ),
-        (
-            "module M; create O : B from I : A; helper def: f : Integer = query;",
-            "Expected 1:62",
-        ),
-        (
-            "module M; create O : B from I : A; helper def: f : Integer = 1 refining;",
-            "OtherUnit 1:64",
-        ),
-        (
-            "module M; create O : B from I : A; helper def: uses : Integer = 1;",
-            "OtherUnit 1:48",
-        ),
-        (
-            "module M; create O : B from I : A; helper f",
-            "Expected 1:43",
-        ),
-        (
-            "module M; create O : B from I : A; helper context Set(A!N) def: f : Integer = 1;",
-            "Expected 1:51",
-        ),
-        (
-            "module M; create O : B from I : A; helper context A def: f : Integer = 1;",
-            "Expected 1:53",
-        ),
-        (
-            "module M; create O : B from I : A; helper context A!N f",
-            "Expected 1:55",
-        ),
-        (
-            "module M; create O : B from I : A; helper def f",
-            "Expected 1:47",
-        ),
-        (
-            "module M; create O : B from I : A; helper def: f = 1;",
-            "Expected 1:50",
-        ),
-        (
-            "module M; create O : B from I : A; helper def: f(x) : Integer = 1;",
-            "Expected 1:51",
-        ),
-        (
-            "module M; create O : B from I : A; helper def: f(x : Integer,) : Integer = 1;",
-            "Expected 1:62",
-        ),
-        (
-            "module M; create O : B from I : A; helper def: f(1) : Integer = 1;",
-            "Expected 1:50",
-        ),
-        (
-            "module M; create O : B from I : A; helper def: f() = 1;",
-            "Expected 1:52",
-        ),
-        (
-            "module M; create O : B from I : A; helper def: f : Set(Integer = 1;",
-            "Expected 1:64",
-        ),
-        (
-            "module M; create O : B from I : A; helper def: f : Integer 1;",
-            "Expected 1:60",
-        ),
-        (
-            "module M; create O : B from I : A; helper def: f : Integer = ;",
-            "Expected 1:62",
-        ),
-        (
-            "module M; create O : B from I : A; helper def: f : Integer = 1 rule",
-            "Expected 1:64",
-        ),
-        (
-            "module M; create O : B from I : A; helper def: f : Integer = (1;",
-            "Expected 1:64",
-        ),
-        (
-            "module M; create O : B from I : A; helper def: f : Integer = a.b <- 1;",
-            "Expected 1:66",
-        ),
-        (
-            "module M; create O : B from I : A; unique rule R { from s : A!N }",
-            "Expected 1:43",
-        ),
-        (
-            "module M; create O : B from I : A; lazy lazy rule R { from s : A!N }",
-            "Expected 1:41",
-        ),
-        (
-            "module M; create O : B from I : A; abstract unique abstract rule R { from s : A!N }",
-            "Expected 1:52",
-        ),
-        (
-            "module M; create O : B from I : A; unique abstract rule R { from s : A!N }",
-            "Expected 1:52",
-        ),
-        (
-            "module M; create O : B from I : A; lazy R { from s : A!N }",
-            "Expected 1:41",
-        ),
-        (
-            "module M; create O : B from I : A; lazy rule R { from s : A!N (true) }",
-            "Expected 1:63",
-        ),
-        (
-            "module M; create O : B from I : A; unique lazy rule R { from s : A!N (true) }",
-            "Expected 1:70",
-        ),
-        (
-            "module M; create O : B from I : A; lazy rule R() { }",
-            "Expected 1:47",
-        ),
-        (
-            "module M; create O : B from I : A; abstract rule R() { }",
-            "Expected 1:51",
-        ),
-        (
-            "module M; create O : B from I : A; rule R extends Q() { }",
-            "Expected 1:52",
-        ),
-        (
-            "module M; create O : B from I : A; rule R extends { from s : A!N }",
-            "Expected 1:51",
-        ),
-        (
-            "module M; create O : B from I : A; rule R { }",
-            "Expected 1:45",
-        ),
-        (
-            "module M; create O : B from I : A; rule R { from s : A }",
-            "Expected 1:56",
-        ),
-        (
-            "module M; create O : B from I : A; rule R { from s : A!N (true }",
-            "Expected 1:64",
-        ),
-        (
-            "module M; create O : B from I : A; rule R { from s : A!N (true) (true) }",
-            "Expected 1:65",
-        ),
-        (
-            "module M; create O : B from I : A; rule R { from s : A!N, t }",
-            "Expected 1:61",
-        ),
-        (
-            "module M; create O : B from I : A; rule R { from s : A!N do { } to t : B!M }",
-            "Expected 1:65",
-        ),
-        (
-            "module M; create O : B from I : A; rule R { from s : A!N to t : B!M using { } }",
-            "Expected 1:69",
-        ),
-        (
-            "module M; create O : B from I : A; rule R { from s : A!N using { v = 1; } }",
-            "Expected 1:68",
-        ),
-        (
-            "module M; create O : B from I : A; rule R { from s : A!N using { v : Integer = 1 } }",
-            "Expected 1:82",
-        ),
-        (
-            "module M; create O : B from I : A; rule R { from s : A!N to }",
-            "Expected 1:61",
-        ),
-        (
-            "module M; create O : B from I : A; rule R { from s : A!N to t : B!M (a <- 1,) }",
-            "Expected 1:77",
-        ),
-        (
-            "module M; create O : B from I : A; rule R { from s : A!N to t : B!M (a = 1) }",
-            "Expected 1:72",
-        ),
-        (
-            "module M; create O : B from I : A; rule R { from s : A!N to t : B!M (a <- 1; }",
-            "Expected 1:76",
-        ),
-        (
-            "module M; create O : B from I : A; rule R(x : Integer) { from s : A!N }",
-            "Expected 1:58",
-        ),
-        (
-            "module M; create O : B from I : A; entrypoint rule R(x : Integer) { }",
-            "Expected 1:54",
-        ),
-        (
-            "module M; create O : B from I : A; entrypoint rule R { }",
-            "Expected 1:54",
-        ),
-        (
-            "module M; create O : B from I : A; endpoint lazy rule R() { }",
-            "Expected 1:45",
-        ),
-        (
-            "module M; create O : B from I : A; lazy entrypoint rule R() { }",
-            "Expected 1:41",
-        ),
-        (
-            "module M; create O : B from I : A; rule R() { do { 1 } }",
-            "Expected 1:54",
-        ),
-        (
-            "module M; create O : B from I : A; rule R() { do { a <- 1; } }",
-            "Expected 1:54",
-        ),
-        (
-            "module M; create O : B from I : A; rule R() { do { a.b() <- 1; } }",
-            "Expected 1:58",
-        ),
-        (
-            "module M; create O : B from I : A; rule R() { do { (a.b) <- 1; } }",
-            "Expected 1:58",
-        ),
-        (
-            "module M; create O : B from I : A; rule R() { do { a.b <- 1 <- 2; } }",
-            "Expected 1:61",
-        ),
-        (
-            "module M; create O : B from I : A; rule R() { do { (a.b <- 1); } }",
-            "Expected 1:57",
-        ),
-        (
-            "module M; create O : B from I : A; rule R() { do { if (a) then b else c endif; } }",
-            "Expected 1:59",
-        ),
-        (
-            "module M; create O : B from I : A; rule R() { do { if (a) { } else 1; } }",
-            "Expected 1:68",
-        ),
-        (
-            "module M; create O : B from I : A; rule R() { do { if (a { } } }",
-            "Expected 1:58",
-        ),
-        (
-            "module M; create O : B from I : A; rule R() { do { if (a) { }; } }",
-            "Expected 1:62",
-        ),
-        (
-            "module M; create O : B from I : A; rule R() { do { else { } } }",
-            "Expected 1:52",
-        ),
-        (
-            "module M; create O : B from I : A; rule R() { do { for x in c { } } }",
-            "Expected 1:56",
-        ),
-        (
-            "module M; create O : B from I : A; rule R() { do { for (x c) { } } }",
-            "Expected 1:59",
-        ),
-        (
-            "module M; create O : B from I : A; rule R() { do { for (x in c) 1; } }",
-            "Expected 1:65",
-        ),
-        (
-            "module M; create O : B from I : A; rule R() { do { } 1 }",
-            "Expected 1:54",
-        ),
-        (
-            "module M; create O : B from I : A; rule R() { do { }",
-            "Expected 1:53",
-        ),
-        (
-            "module M; create O : B from I : A; helper def: f : Integer = 1",
-            "Expected 1:63",
-        ),
-        (
-            "module M; create O : B from I : A; helper def: f : Integer = 1 }",
-            "Expected 1:64",
-        ),
-        ("module M $", "Lex(BadByte(Place { line: 1, column: 10 }))"),
-        (
-            "module M; 'a",
-            "Lex(OpenText(Place { line: 1, column: 11 }))",
-        ),
-        ("query 'a", "OtherUnit 1:1"),
-        ("module M N $", "Expected 1:10"),
-        (
-            "module M; create O : B from I : A; helper def: f : Real = 1 }; / 1.5",
-            "Lex(RealNumber(Place { line: 1, column: 52 }))",
-        ),
-        (
-            "module M; create O : B from I : A; helper def: f : Integer = 1 }; / 1.5",
-            "Expected 1:64",
-        ),
-        (
-            "module M; create O : B from I : A; helper def: f : Integer = 1 / 2;",
-            "Lex(RealNumber(Place { line: 1, column: 64 }))",
-        ),
-        (
-            "module 99999999999999999999",
-            "Lex(WideNumber(Place { line: 1, column: 8 }))",
-        ),
-        (
-            "module M; create O : B from I : A;\nhelper def: f : Real = 1;",
-            "Lex(RealNumber(Place { line: 2, column: 17 }))",
-        ),
-        (
-            "99999999999999999999",
-            "Lex(WideNumber(Place { line: 1, column: 1 }))",
-        ),
     ];
     for (text, expected) in cases {
         assert_eq!(rt; refused(rt.alloc(), text)?.as_str(), expected);
+    }
+    Ok(())
+}
+
+#[test]
+fn helpers_are_refused(rt: HostRuntime) -> Result<(), Fail> {
+    let cases = [
+        ("uses x;", "OtherUnit 2:1"),
+        ("helper def: f : Integer = uses;", "OtherUnit 2:27"),
+        ("helper def: f : Integer = query;", "Expected 2:27"),
+        ("helper def: f : Integer = 1 refining;", "OtherUnit 2:29"),
+        ("helper def: uses : Integer = 1;", "OtherUnit 2:13"),
+        ("helper f", "Expected 2:8"),
+        (
+            "helper context Set(A!N) def: f : Integer = 1;",
+            "Expected 2:16",
+        ),
+        ("helper context A def: f : Integer = 1;", "Expected 2:18"),
+        ("helper context A!N f", "Expected 2:20"),
+        ("helper def f", "Expected 2:12"),
+        ("helper def: f = 1;", "Expected 2:15"),
+        ("helper def: f(x) : Integer = 1;", "Expected 2:16"),
+        (
+            "helper def: f(x : Integer,) : Integer = 1;",
+            "Expected 2:27",
+        ),
+        ("helper def: f(1) : Integer = 1;", "Expected 2:15"),
+        ("helper def: f() = 1;", "Expected 2:17"),
+        ("helper def: f : Set(Integer = 1;", "Expected 2:29"),
+        ("helper def: f : Integer 1;", "Expected 2:25"),
+        ("helper def: f : Integer = ;", "Expected 2:27"),
+        ("helper def: f : Integer = 1 rule", "Expected 2:29"),
+        ("helper def: f : Integer = (1;", "Expected 2:29"),
+        ("helper def: f : Integer = a.b <- 1;", "Expected 2:31"),
+        ("helper def: f : Integer = 1", "Expected 2:28"),
+        ("helper def: f : Integer = 1 }", "Expected 2:29"),
+    ];
+    for (text, expected) in cases {
+        assert_eq!(rt; refused_items(rt.alloc(), text)?.as_str(), expected);
+    }
+    Ok(())
+}
+
+#[test]
+fn the_words_before_rules_are_refused(rt: HostRuntime) -> Result<(), Fail> {
+    let cases = [
+        ("unique rule R { from s : A!N }", "Expected 2:8"),
+        ("lazy lazy rule R { from s : A!N }", "Expected 2:6"),
+        (
+            "abstract unique abstract rule R { from s : A!N }",
+            "Expected 2:17",
+        ),
+        ("unique abstract rule R { from s : A!N }", "Expected 2:17"),
+        ("lazy R { from s : A!N }", "Expected 2:6"),
+        ("lazy rule R { from s : A!N (true) }", "Expected 2:28"),
+        (
+            "unique lazy rule R { from s : A!N (true) }",
+            "Expected 2:35",
+        ),
+        ("lazy rule R() { }", "Expected 2:12"),
+        ("abstract rule R() { }", "Expected 2:16"),
+        ("rule R extends Q() { }", "Expected 2:17"),
+        ("rule R extends { from s : A!N }", "Expected 2:16"),
+        ("rule R(x : Integer) { from s : A!N }", "Expected 2:23"),
+        ("entrypoint rule R(x : Integer) { }", "Expected 2:19"),
+        ("entrypoint rule R { }", "Expected 2:19"),
+        ("endpoint lazy rule R() { }", "Expected 2:10"),
+        ("lazy entrypoint rule R() { }", "Expected 2:6"),
+    ];
+    for (text, expected) in cases {
+        assert_eq!(rt; refused_items(rt.alloc(), text)?.as_str(), expected);
+    }
+    Ok(())
+}
+
+#[test]
+fn rules_are_refused(rt: HostRuntime) -> Result<(), Fail> {
+    let cases = [
+        ("rule R { }", "Expected 2:10"),
+        ("rule R { from s : A }", "Expected 2:21"),
+        ("rule R { from s : A!N (true }", "Expected 2:29"),
+        ("rule R { from s : A!N (true) (true) }", "Expected 2:30"),
+        ("rule R { from s : A!N, t }", "Expected 2:26"),
+        ("rule R { from s : A!N do { } to t : B!M }", "Expected 2:30"),
+        (
+            "rule R { from s : A!N to t : B!M using { } }",
+            "Expected 2:34",
+        ),
+        ("rule R { from s : A!N using { v = 1; } }", "Expected 2:33"),
+        (
+            "rule R { from s : A!N using { v : Integer = 1 } }",
+            "Expected 2:47",
+        ),
+        ("rule R { from s : A!N to }", "Expected 2:26"),
+        (
+            "rule R { from s : A!N to t : B!M (a <- 1,) }",
+            "Expected 2:42",
+        ),
+        (
+            "rule R { from s : A!N to t : B!M (a = 1) }",
+            "Expected 2:37",
+        ),
+        (
+            "rule R { from s : A!N to t : B!M (a <- 1; }",
+            "Expected 2:41",
+        ),
+    ];
+    for (text, expected) in cases {
+        assert_eq!(rt; refused_items(rt.alloc(), text)?.as_str(), expected);
+    }
+    Ok(())
+}
+
+#[test]
+fn statements_are_refused(rt: HostRuntime) -> Result<(), Fail> {
+    let cases = [
+        ("rule R() { do { 1 } }", "Expected 2:19"),
+        ("rule R() { do { a <- 1; } }", "Expected 2:19"),
+        ("rule R() { do { a.b() <- 1; } }", "Expected 2:23"),
+        ("rule R() { do { (a.b) <- 1; } }", "Expected 2:23"),
+        ("rule R() { do { a.b <- 1 <- 2; } }", "Expected 2:26"),
+        ("rule R() { do { (a.b <- 1); } }", "Expected 2:22"),
+        (
+            "rule R() { do { if (a) then b else c endif; } }",
+            "Expected 2:24",
+        ),
+        ("rule R() { do { if (a) { } else 1; } }", "Expected 2:33"),
+        ("rule R() { do { if (a { } } }", "Expected 2:23"),
+        ("rule R() { do { if (a) { }; } }", "Expected 2:27"),
+        ("rule R() { do { else { } } }", "Expected 2:17"),
+        ("rule R() { do { for x in c { } } }", "Expected 2:21"),
+        ("rule R() { do { for (x c) { } } }", "Expected 2:24"),
+        ("rule R() { do { for (x in c) 1; } }", "Expected 2:30"),
+        ("rule R() { do { } 1 }", "Expected 2:19"),
+        ("rule R() { do { }", "Expected 2:18"),
+    ];
+    for (text, expected) in cases {
+        assert_eq!(rt; refused_items(rt.alloc(), text)?.as_str(), expected);
+    }
+    Ok(())
+}
+
+#[test]
+fn tokens_are_refused(rt: HostRuntime) -> Result<(), Fail> {
+    let cases = [
+        ("module M $", "BadByte 1:10"),
+        ("module M; 'a", "OpenText 1:11"),
+        ("query 'a", "OtherUnit 1:1"),
+        ("module M N $", "Expected 1:10"),
+        ("module 99999999999999999999", "WideNumber 1:8"),
+        ("99999999999999999999", "WideNumber 1:1"),
+    ];
+    for (text, expected) in cases {
+        assert_eq!(rt; refused(rt.alloc(), text)?.as_str(), expected);
+    }
+    Ok(())
+}
+
+#[test]
+fn the_first_refusal_is_answered(rt: HostRuntime) -> Result<(), Fail> {
+    let cases = [
+        ("helper def: f : Real = 1 }; / 1.5", "RealNumber 2:17"),
+        ("helper def: f : Integer = 1 }; / 1.5", "Expected 2:29"),
+        ("helper def: f : Integer = 1 / 2;", "RealNumber 2:29"),
+        ("helper def: f : Real = 1;", "RealNumber 2:17"),
+        ("$ rule", "BadByte 2:1"),
+        ("rule rule '", "Expected 2:6"),
+    ];
+    for (text, expected) in cases {
+        assert_eq!(rt; refused_items(rt.alloc(), text)?.as_str(), expected);
     }
     Ok(())
 }
@@ -721,8 +625,6 @@ fn repeated(
     all.push_str(behind)?;
     Ok(all)
 }
-
-const HEADER: &str = "module M; create O : B from I : A;";
 
 #[test]
 fn an_expression_stands_200_deep(rt: HostRuntime) -> Result<(), Fail> {
