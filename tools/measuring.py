@@ -37,10 +37,12 @@ fn main(rt: HostRuntime) -> ExitCode {
 }
 """
 
-# Runs the program that its words name, and prints the processor's seconds, the peak memory in KiB and the status. A process' peak
-# begins with that of the one that starts it, so this one is small.
+# Runs the program that its words name, whose output is passed over, and prints the processor's seconds, the peak memory in KiB and the
+# status. A process' peak begins with that of the one that starts it, so this one is small.
 MEASURE = """
 import os, sys
+sys.stdout = os.fdopen(os.dup(1), "w")
+os.dup2(os.open(os.devnull, os.O_WRONLY), 1)
 child = os.spawnv(os.P_NOWAIT, sys.argv[1], sys.argv[1:])
 _, status, used = os.wait4(child, 0)
 print(used.ru_utime + used.ru_stime, used.ru_maxrss, os.waitstatus_to_exitcode(status))
@@ -67,9 +69,9 @@ def build(folder, libraries, judge):
     return program
 
 
-def run(program, file):
-    """The processor's seconds, and the peak memory in bytes."""
-    words = [sys.executable, "-S", "-E", "-c", MEASURE, str(program), str(file)]
+def run(program, *words):
+    """The processor's seconds, and the peak memory in bytes, of the program with these words."""
+    words = [sys.executable, "-S", "-E", "-c", MEASURE, str(program)] + [str(word) for word in words]
     seconds, peak, status = subprocess.run(words, check=True, capture_output=True, text=True).stdout.split()
     if status != "0":
         sys.exit("the program ended with %s" % status)
