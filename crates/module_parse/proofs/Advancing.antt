@@ -11,8 +11,8 @@ use Rattle.atl_tree.specs.Tokens.{leads_name, begins_arrow}
 use Rattle.ocl_parse.specs.declared.refusal.ParseRefusal.{ParseRefusal}
 use Rattle.ocl_parse.specs.declared.refusal.ParseRefusal.TheVariants as R
 use Rattle.module_parse.specs.Marks.{Content, Mark, mark, content_of, marks}
-use Rattle.module_parse.specs.Machine.{State, Step, Goes, Refuses, TooDeep, End, Expected, Deep, step, after, run}
-use Rattle.module_parse.specs.Reading.{is_other, refusal, told, Fails}
+use Rattle.module_parse.specs.Machine.{State, Step, Goes, Refuses, TooDeep, step, after, run}
+use Rattle.module_parse.specs.Reading.{is_other, told, Fails}
 
 length_marks : (led : Bool) (ts : List Token) → length (marks led ts) ≡ length ts
 length_marks led [] = refl

@@ -1,5 +1,5 @@
 -- Whether a statement's expression begins as the statement form of `if` does depends on its symbols alone.
-use Rattle.std.proofs.Common.{◌≡◌, List, [], ◌∷◌, refl, sym, ap, ◌∙◌}
+use Rattle.std.proofs.Common.{◌≡◌, List, [], ◌∷◌, refl, ap, ◌∙◌}
 use Rattle.std.specs.Prelude.{map}
 use Rattle.atl_base.specs.declared.place.Place.{Place}
 use Rattle.ocl_parse.specs.declared.sign.Sign.TheVariants as S

@@ -1,5 +1,5 @@
 -- Lists that are the same, by their parts.
-use Rattle.std.proofs.Common.{◌≡◌, List, [], ◌∷◌, ◌++◌, refl, ap, ◌∙◌}
+use Rattle.std.proofs.Common.{◌≡◌, List, [], ◌∷◌, ◌++◌, ap, ◌∙◌}
 
 head_of : {A : Type 0} → A → List A → A
 head_of d [] = d

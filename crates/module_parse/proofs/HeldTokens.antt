@@ -1,11 +1,10 @@
 -- The names, texts and numbers of a text's tokens are such as tokens can have: each is written so again.
 use Rattle.std.proofs.Common.{◌≡◌, ◌≢◌, ℕ, ◌≤◌, List, [], ◌∷◌, ◌++◌, Option, None, Some, Ok, true, false, refl, sym, ap, subst, ◌∙◌, arith}
-use Rattle.std.specs.Prelude.{Bool, ◌||◌, ◌==◌, not, map, encode_utf8_all}
+use Rattle.std.specs.Prelude.{Bool, ◌||◌, map, encode_utf8_all}
 use Rattle.std.specs.Char.{encode_utf8}
 use Rattle.std.specs.List.{list_all, flat_map}
 use Rattle.std.proofs.lemmas.Bool.{and_parts, and_from}
 use Rattle.std.proofs.lemmas.Bool.Decides.{nat_tests}
-use Rattle.std.proofs.lemmas.Str.{encodes-append}
 use Rattle.atl_base.specs.declared.place.Place.{Place}
 use Rattle.atl_tree.specs.declared.token.Token.{Token}
 use Rattle.atl_tree.specs.declared.token.Tokens.{Tokens}
@@ -13,7 +12,7 @@ use Rattle.atl_tree.specs.declared.token.TokenSort.{TokenSort}
 use Rattle.atl_tree.specs.declared.token.TokenSort.TheVariants as T
 use Rattle.atl_tree.specs.Pieces.{Piece, IsPieceOf, IsToken, IsPlain, IsQuoted, IsWords, Sign, Itself, Escaped, is_sign, spelling, is_letter, is_digit, is_in_quotes, is_in_words}
 use Rattle.atl_tree.specs.Cutting.{Begins}
-use Rattle.atl_tree.specs.Tokens.{token, token_of, tokens_from, after, place, value_from, leads_name, begins_arrow, begin_byte, body_of, tokens_of}
+use Rattle.atl_tree.specs.Tokens.{token_of, tokens_from, place, value_from, begins_arrow, begin_byte, body_of, tokens_of}
 use Rattle.atl_tree.proofs.Exact.{exact}
 use Rattle.ocl_parse.specs.declared.sign.Sign.{Sign as SomeSign}
 use Rattle.ocl_parse.specs.declared.symbol.Symbol.TheVariants.{Fixed}
@@ -22,8 +21,8 @@ use Rattle.ocl_parse.specs.Symbols.{unquoted, resolved_char, resolved_from, at_m
 use Rattle.ocl_parse.proofs.Resolving.{resolved_plain, resolved_backslash, resolved_behind, resolved_quote}
 use Rattle.module_parse.specs.declared.keyword.Keyword.{Keyword}
 use Rattle.module_parse.specs.Keywords.{keyword, arrow}
-use Rattle.module_parse.specs.Marks.{Content, word_or, content_of, marks}
-use Rattle.module_parse.specs.Held.{IsNameText, IsWordsText, IsNumber, IsHeld, AreHeld}
+use Rattle.module_parse.specs.Marks.{word_or, content_of, marks}
+use Rattle.module_parse.specs.Held.{IsNameText, IsWordsText, IsHeld, AreHeld}
 use Rattle.module_parse.proofs.ReadNames.{quoted_outside}
 
 letter_inside : (c : ℕ) → (is_letter c || is_digit c) ≡ true → is_in_quotes c ≡ true

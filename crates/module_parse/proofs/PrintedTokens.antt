@@ -1,17 +1,16 @@
 -- The tokens of canonical text are the canonical marks.
-use Rattle.std.proofs.Common.{◌≡◌, ℕ, inl, inr, List, [], ◌∷◌, ◌++◌, Ok, false, refl, sym, ap, subst, ◌∙◌, append_assoc, arith}
-use Rattle.std.specs.Prelude.{map, encode_utf8_all}
+use Rattle.std.proofs.Common.{◌≡◌, ℕ, inl, inr, List, [], ◌∷◌, ◌++◌, refl, sym, ap, subst, ◌∙◌, append_assoc, arith}
+use Rattle.std.specs.Prelude.{encode_utf8_all}
 use Rattle.std.proofs.lemmas.List.{map-append}
 use Rattle.std.proofs.lemmas.Str.{encode_ascii, encodes-append, encodes_same}
-use Rattle.atl_tree.specs.declared.token.Tokens.{Tokens}
 use Rattle.atl_tree.specs.declared.module.Module.{Module}
 use Rattle.atl_tree.specs.Tokens.{tokens_of}
 use Rattle.atl_tree.proofs.Exact.{exact}
 use Rattle.ocl_parse.specs.declared.sign.Sign.TheVariants as S
 use Rattle.ocl_parse.specs.declared.symbol.Symbol.TheVariants.{Number, Words, Name as Named, Fixed}
 use Rattle.module_parse.specs.declared.keyword.Keyword.TheVariants as W
-use Rattle.module_parse.specs.Marks.{Content, Word, Shared, Mark, word, sign, called, marks}
-use Rattle.module_parse.specs.Grammar.{Start, NoStart, Entry, End, Words as Modifiers, NoWords, MoreWords, WrittenItem, Help, Make, WrittenHelper, Define, WrittenRule, Matched, Called, Items, NoItems, MoreItems, WrittenModule, Composed, models_marks, words_marks, start_marks, rule_marks, item_marks, items_marks, module_marks}
+use Rattle.module_parse.specs.Marks.{Content, Word, Shared, Mark, word, sign, called}
+use Rattle.module_parse.specs.Grammar.{WrittenItem, Help, Make, Define, Matched, Called, Items, NoItems, MoreItems, WrittenModule, Composed, models_marks, words_marks, start_marks, item_marks, items_marks, module_marks}
 use Rattle.module_parse.specs.Writing.{module_written}
 use Rattle.module_parse.specs.Printed.{mark_text, line_text, items_text, text_of, printed}
 use Rattle.module_parse.specs.ReadBack.{contents, TokensAre}

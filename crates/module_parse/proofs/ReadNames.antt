@@ -1,6 +1,6 @@
 -- The text of each name, text and number is read as that name, text or number.
-use Rattle.std.proofs.Common.{◌≡◌, ◌≢◌, ℕ, suc, ◌+◌, ◌-◌, ◌*◌, ◌/◌, ◌%◌, ◌^◌, ◌<◌, ◌≤◌, ◌==◌, ◌⊎◌, inl, inr, List, [], ◌∷◌, ◌++◌, Option, None, Some, true, false, refl, sym, ap, subst, ◌∙◌, append_assoc, arith}
-use Rattle.std.specs.Prelude.{Bool, map, ◌||◌, ◌&&◌, not, ℤ, pos, nat_abs, nat_lt, codes, decimal, encode_utf8_all, is_some, if◌then◌else◌}
+use Rattle.std.proofs.Common.{◌≡◌, ◌≢◌, ℕ, ◌+◌, ◌-◌, ◌*◌, ◌/◌, ◌%◌, ◌^◌, ◌<◌, ◌≤◌, ◌==◌, ◌⊎◌, inl, inr, List, [], ◌∷◌, ◌++◌, Option, None, Some, true, false, refl, sym, ap, subst, ◌∙◌, append_assoc, arith}
+use Rattle.std.specs.Prelude.{Bool, map, ◌||◌, ℤ, pos, nat_lt, codes, decimal, encode_utf8_all, if◌then◌else◌}
 use Rattle.std.specs.Char.{encode_utf8}
 use Rattle.std.specs.List.{list_all, list_any, flat_map}
 use Rattle.std.specs.Str.{bytes_eq}
@@ -11,24 +11,21 @@ use Rattle.std.proofs.lemmas.List.{append-nil}
 use Rattle.std.proofs.lemmas.List.Concat.{flat_map-append}
 use Rattle.std.proofs.lemmas.Slice.Eq.{bytes_eq-Decides}
 use Rattle.std.proofs.lemmas.Str.{encode_ascii, encodes-append}
-use Rattle.atl_base.specs.declared.place.Place.{Place}
 use Rattle.atl_tree.specs.declared.token.TokenSort.TheVariants as T
-use Rattle.atl_tree.specs.Pieces.{IsPlain, IsQuoted, IsWords, IsDigits, Sign, Itself, Escaped, is_sign, spelling, is_letter, is_digit, is_escape, is_in_quotes, is_in_words}
+use Rattle.atl_tree.specs.Pieces.{IsPlain, IsDigits, Sign, Itself, Escaped, is_sign, spelling, is_letter, is_digit, is_escape, is_in_quotes, is_in_words}
 use Rattle.atl_tree.specs.Tokens.{fault_of, value_from, is_wide, has_fraction}
 use Rattle.ocl_parse.specs.declared.sign.Sign.{Sign as SomeSign}
 use Rattle.ocl_parse.specs.declared.sign.Sign.TheVariants as S
-use Rattle.ocl_parse.specs.declared.symbol.Symbol.{Symbol}
 use Rattle.ocl_parse.specs.declared.symbol.Symbol.TheVariants.{Number, Words, Name as Named}
 use Rattle.ocl_parse.specs.Signs as G
 use Rattle.ocl_parse.specs.Signs.{word as sign_of}
-use Rattle.ocl_parse.specs.Symbols.{unquoted, resolved_from, value_of, fixed_or_name}
+use Rattle.ocl_parse.specs.Symbols.{unquoted, resolved_from, fixed_or_name}
 use Rattle.ocl_parse.proofs.Resolving.{unquoted_stays}
 use Rattle.module_parse.specs.declared.keyword.Keyword.{Keyword}
 use Rattle.module_parse.specs.Keywords as K
 use Rattle.module_parse.specs.Keywords.{find, keyword}
-use Rattle.module_parse.specs.Marks.{Content, Word, Shared, word_or, content_of}
-use Rattle.module_parse.specs.Printed.{mark_text, is_plain, name_text, escaped, words_text}
-use Rattle.module_parse.proofs.Spacing.{is_name}
+use Rattle.module_parse.specs.Marks.{Shared, word_or, content_of}
+use Rattle.module_parse.specs.Printed.{is_plain, name_text, escaped, words_text}
 use Rattle.module_parse.proofs.Escaping.{itself, escaped_ascii, escaped_wide}
 use Rattle.module_parse.proofs.Tokened.{Reads}
 use Rattle.module_parse.proofs.ReadMarks.{small_text}

@@ -6,7 +6,7 @@ use Rattle.atl_tree.specs.declared.expr.BinaryOp.TheVariants as O
 use Rattle.ocl_parse.specs.declared.sign.Ender.TheVariants as E
 use Rattle.ocl_parse.specs.declared.sign.Sign.TheVariants as S
 use Rattle.ocl_parse.specs.declared.symbol.Symbol.TheVariants as T
-use Rattle.ocl_parse.specs.Symbols.{Lexeme, lexeme}
+use Rattle.ocl_parse.specs.Symbols.{Lexeme}
 use Rattle.ocl_parse.specs.Trees.{name}
 use Rattle.ocl_parse.specs.Grammar.{Written, Kind, spelt, kind_spelt, Fits}
 use Rattle.module_parse.specs.declared.keyword.Keyword.TheVariants as W

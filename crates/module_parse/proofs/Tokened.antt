@@ -1,18 +1,17 @@
 -- The tokens of a text in which a blank or a line feed stands behind each token.
-use Rattle.std.proofs.Common.{◌≡◌, append_assoc, ℕ, ◌+◌, ◌==◌, ◌⊎◌, inl, inr, List, [], ◌∷◌, ◌++◌, length, Option, None, Some, true, false, refl, sym, ap, subst, ◌∙◌}
-use Rattle.std.specs.Prelude.{Bool, ◌||◌, ◌&&◌, map, codes, encode_utf8_all, if◌then◌else◌}
+use Rattle.std.proofs.Common.{◌≡◌, append_assoc, ℕ, ◌+◌, inl, List, [], ◌∷◌, ◌++◌, length, None, Some, true, false, refl, sym, ap, subst, ◌∙◌}
+use Rattle.std.specs.Prelude.{Bool, ◌||◌, ◌&&◌, codes, encode_utf8_all}
 use Rattle.std.specs.Str.{bytes_eq}
 use Rattle.atl_base.specs.declared.place.Place.{Place}
 use Rattle.atl_tree.specs.declared.token.Token.{Token}
 use Rattle.atl_tree.specs.declared.token.Tokens.{Tokens}
 use Rattle.atl_tree.specs.declared.token.TokenSort.{TokenSort}
-use Rattle.atl_tree.specs.declared.token.TokenSort.TheVariants as T
-use Rattle.atl_tree.specs.Pieces.{Piece, IsPiece, IsToken, IsGap}
+use Rattle.atl_tree.specs.Pieces.{Piece, IsToken}
 use Rattle.atl_tree.specs.Cutting.{Begins}
 use Rattle.atl_tree.specs.Machine.{piece}
 use Rattle.atl_tree.specs.Tokens.{place, after, token, tokens_from, fault_of, is_mark, leads_name, begins_arrow, or_else, first_fault, body_of, begin_byte, HasTokens}
 use Rattle.atl_tree.proofs.Breaks.{Break, break_is_gap, token_longest, gap_longest, unmarked}
-use Rattle.module_parse.specs.Marks.{Content, Mark, content_of, marks}
+use Rattle.module_parse.specs.Marks.{Content, content_of, marks}
 use Rattle.module_parse.specs.Printed.{mark_text}
 use Rattle.module_parse.specs.ReadBack.{contents}
 use Rattle.module_parse.proofs.Spacing.{is_lead, is_gives, is_name, gives_next, Clear}

@@ -1,5 +1,5 @@
 -- Where the code stands in reading, as the states of the machine, and what it moves to, as the machine's steps.
-use Rattle.std.specs.Prelude.{Bool, true, false, List, [], ◌∷◌, Option, None, Some, reverse, if◌then◌else◌}
+use Rattle.std.specs.Prelude.{Bool, true, false, List, [], ◌∷◌, Option, None, Some, reverse}
 use Rattle.atl_tree.specs.declared.name.Name.{Name}
 use Rattle.atl_tree.specs.declared.module.Module.{Module}
 use Rattle.atl_tree.specs.declared.module.Rule.{Rule}
@@ -20,7 +20,6 @@ use Rattle.module_parse.specs.declared.reading.next.Models.{Models as SomeModels
 use Rattle.module_parse.specs.declared.reading.next.Models.TheVariants as M
 use Rattle.module_parse.specs.declared.reading.next.Header.{Header}
 use Rattle.module_parse.specs.declared.reading.next.Header.TheVariants as H
-use Rattle.module_parse.specs.declared.reading.next.Signature.{Signature}
 use Rattle.module_parse.specs.declared.reading.next.Helping.{Helping}
 use Rattle.module_parse.specs.declared.reading.next.Helping.TheVariants as L
 use Rattle.module_parse.specs.declared.reading.next.Draft.{Draft}

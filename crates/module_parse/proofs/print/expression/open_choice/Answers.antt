@@ -1,4 +1,4 @@
-use Rattle.std.proofs.Common.{append_assoc, add-one, arith}
+use Rattle.std.proofs.Common.{append_assoc, arith}
 use Rattle.module_parse.proofs.Opened.{OnOk-map, spelling-append}
 use Rattle.module_parse.proofs.print.expression.open_choice.Goals as goal
 

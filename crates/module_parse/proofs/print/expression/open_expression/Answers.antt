@@ -1,5 +1,5 @@
 use Rattle.std.proofs.Common.{◌≡◌, sym, ap, ◌∙◌, ◌++◌, arith}
-use Rattle.std.specs.Prelude.{reverse, true, false, if◌then◌else◌}
+use Rattle.std.specs.Prelude.{reverse, if◌then◌else◌}
 use Rattle.ocl_parse.specs.Grammar.{Round, spelt}
 use Rattle.module_parse.specs.Writing.{here, what_written, expr_written}
 use Rattle.module_parse.specs.Pending.{begun, bare, pending, spelling}

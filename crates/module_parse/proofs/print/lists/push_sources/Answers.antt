@@ -1,8 +1,6 @@
-use Rattle.std.proofs.Common.{◌≡◌, ◌∷◌, ◌++◌, ◌==◌, length, sym, ap, ◌∙◌, Some, true, false}
-use Rattle.std.proofs.lemmas.List.{nil_from_length}
-use Rattle.module_parse.specs.Grammar.{models_marks, sources_marks, bracketed_marks, list_marks, to_marks, using_marks, guard_marks, context_marks, block_marks, rule_marks}
-use Rattle.module_parse.specs.Writing.{models_written, sources_written, bracketed_written, list_written, to_written, using_written, guard_written, context_written, block_written, by_sort}
-use Rattle.module_parse.specs.Printed.{line_text, printed}
+use Rattle.std.proofs.Common.{◌≡◌, ◌∷◌, ◌++◌, sym, ap, ◌∙◌}
+use Rattle.module_parse.specs.Grammar.{sources_marks}
+use Rattle.module_parse.specs.Writing.{sources_written}
 use Rattle.module_parse.specs.Pending.{spaced}
 use Rattle.module_parse.proofs.Opened.{OnOk-then, joined}
 use Rattle.module_parse.proofs.Fragmented.{sources_texts}

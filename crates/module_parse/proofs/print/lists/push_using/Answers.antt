@@ -1,10 +1,6 @@
-use Rattle.std.proofs.Common.{◌≡◌, ◌∷◌, [], ◌++◌, ◌==◌, length, sym, ap, ◌∙◌, append_assoc, Some, true, false, codes}
+use Rattle.std.proofs.Common.{◌≡◌, [], ◌++◌, ◌==◌, sym, ap, ◌∙◌, true, false, codes}
 use Rattle.std.specs.List.{flat_map}
-use Rattle.module_parse.specs.Grammar.{NoStart, Entry, End, context_marks, signature_marks, bracketed_marks, list_marks, to_marks, using_marks, guard_marks, sources_marks, block_marks, rule_marks}
-use Rattle.module_parse.specs.Writing.{here, context_written, signature_written, sources_written, bracketed_written, list_written, to_written, using_written, guard_written, block_written, by_sort}
-use Rattle.module_parse.specs.Printed.{name_text, line_text}
-use Rattle.module_parse.specs.Pending.{spaced, kind_text, expr_text, stat_text}
-use Rattle.module_parse.specs.Fragments.{token, comma, params_text, local_text, bind_text, target_text, head_text, rest_text, first_line, second_line}
+use Rattle.module_parse.specs.Fragments.{token, local_text}
 use Rattle.module_parse.proofs.Opened.{OnOk-then, joined}
 use Rattle.module_parse.proofs.Fragmented.{using_by}
 use Rattle.module_parse.proofs.print.lists.push_using.Goals as goal

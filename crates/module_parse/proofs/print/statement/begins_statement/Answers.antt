@@ -1,4 +1,4 @@
-use Rattle.std.proofs.Common.{◌≡◌, sym, ap, ◌∙◌}
+use Rattle.std.proofs.Common.{sym, ap, ◌∙◌}
 use Rattle.std.specs.Prelude.{suc, false, map, codes}
 use Rattle.ocl_parse.specs.Trees.{level, name}
 use Rattle.ocl_parse.specs.Grammar.{spelt}
@@ -6,7 +6,7 @@ use Rattle.module_parse.specs.Grammar.{begins_if}
 use Rattle.module_parse.specs.Writing.{here, name_here, arguments, kind_written, expr_written, what_written}
 use Rattle.module_parse.specs.Pending.{begins_open}
 use Rattle.module_parse.proofs.Layers.{bare-Number, bare-Words, bare-Truth, bare-Undefined, bare-Literal, bare-Var, bare-Own, bare-Module, bare-Class, bare-Basic, bare-Coll, bare-If, bare-Let, bare-Unary, bare-Binary, bare-Read, bare-Call, bare-Loop, bare-Iterate}
-use Rattle.module_parse.proofs.Heads.{bare_of, enclosed_of, round_begins, unary_begins, unary_opens, truth_opens, truth_begins, choice_begins, begins-Binary, begins-Read, begins-Call, begins-Loop, begins-Iterate}
+use Rattle.module_parse.proofs.Heads.{bare_of, enclosed_of, round_begins, unary_begins, truth_begins, choice_begins, begins-Binary, begins-Read, begins-Call, begins-Loop, begins-Iterate}
 use Rattle.module_parse.proofs.print.statement.begins_statement.Goals as goal
 
 pub returns-then-is_enclosed : goal.returns-then-is_enclosed

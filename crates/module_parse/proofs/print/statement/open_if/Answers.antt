@@ -1,11 +1,9 @@
-use Rattle.std.proofs.Common.{sym, ap, ◌∙◌, ◌++◌, ◌∷◌, arith, codes}
+use Rattle.std.proofs.Common.{ap, ◌∙◌, ◌++◌, ◌∷◌, arith, codes}
 use Rattle.std.specs.Prelude.{reverse, false}
-use Rattle.std.specs.List.{flat_map}
-use Rattle.module_parse.specs.Pending.{begun, singles, extras, pending, expr_text, kind_text, stat_text, spelling}
-use Rattle.module_parse.specs.Printed.{name_text}
-use Rattle.module_parse.specs.Writing.{expr_written, kind_written, whole_written, here}
-use Rattle.module_parse.proofs.Opened.{OnOk-then, let_says, iterate_says, kind_coll_says, spelling_says}
-use Rattle.module_parse.proofs.StatTexts.{value_says, assign_says, if_says, else_says, for_says}
+use Rattle.module_parse.specs.Pending.{singles, extras, pending, expr_text}
+use Rattle.module_parse.specs.Writing.{whole_written}
+use Rattle.module_parse.proofs.Opened.{OnOk-then}
+use Rattle.module_parse.proofs.StatTexts.{if_says}
 use Rattle.module_parse.proofs.print.statement.open_if.Goals as goal
 
 pub returns : goal.returns
