@@ -1,12 +1,11 @@
 -- A call has one answer: the words are one request, the bytes one module and one source, and a name has one path.
-use Rattle.std.proofs.Common.{◌≡◌, ◌≢◌, ◌≤◌, ◌<◌, ◌⊎◌, inl, inr, ℕ, List, [], ◌∷◌, length, get_or, map, codes, Result, Ok, Err, ap, sym, subst, ◌∙◌, refl, arith}
+use Rattle.std.proofs.Common.{◌≡◌, ◌≢◌, ◌≤◌, ◌<◌, ◌⊎◌, inl, inr, ℕ, List, length, get_or, map, ap, sym, subst, ◌∙◌, refl, arith}
 use Rattle.std.specs.Prelude.{AllPairs}
 use Rattle.std.specs.Str.{chars}
 use Rattle.std.proofs.lemmas.Bool.{cases_lt}
 use Rattle.std.proofs.lemmas.List.{get_or_default}
 use Rattle.std.proofs.lemmas.List.Elements.{recursion_from_All}
 use Rattle.atl_tree.specs.declared.token.Tokens.{Tokens}
-use Rattle.atl_tree.specs.Tokens.{HasTokens}
 use Rattle.atl_tree.proofs.Exact.{exact}
 use Rattle.atl_outside.specs.Held.{Held, bytes_at}
 use Rattle.atl_cli.specs.declared.words.Pair.{Pair}
@@ -16,10 +15,10 @@ use Rattle.atl_cli.specs.declared.source.SourceElement.{SourceElement}
 use Rattle.atl_cli.specs.declared.status.Status.TheVariants.{TooLarge, NotYet}
 use Rattle.atl_cli.specs.declared.status.Size.TheVariants.{File, Objects}
 use Rattle.atl_cli.specs.declared.status.Form.TheVariants as form
-use Rattle.atl_cli.specs.Transform.{HasPath, ArePaths, HasModule, HasPaths, HasElements, HasSpace, Judges, OtherWords, LongModule, OtherModule, OtherNames, LongSource, OtherSource, ManyObjects, Copies, object_limit}
+use Rattle.atl_cli.specs.Transform.{HasPath, ArePaths, HasPaths, HasSpace, Judges, OtherWords, LongModule, OtherModule, OtherNames, LongSource, OtherSource, ManyObjects, Copies, object_limit}
 use Rattle.atl_cli.specs.Outcome.{Outcome, Ends, Writes, file_limit}
 use Rattle.atl_cli.specs.Flat.{flat, text_of}
-use Rattle.atl_cli.specs.OneRule.{IsModule, spelled, made_of}
+use Rattle.atl_cli.specs.OneRule.{IsModule, made_of}
 use Rattle.atl_cli.specs.Source.{IsSource}
 use Rattle.atl_cli.specs.Words.{IsPair, IsRequest, pair_word}
 use Rattle.atl_cli.proofs.Endings.{space_of}

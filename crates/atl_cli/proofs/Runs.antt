@@ -1,11 +1,10 @@
 -- How runs end, by the command; and that a call has one answer.
-use Rattle.std.proofs.Common.{◌≡◌, ℕ, zero, suc, ◌+◌, ◌<◌, List, [], ◌∷◌, length, Option, Some, None, IfSome, inl, inr, sym, subst, ◌∙◌, refl, arith}
+use Rattle.std.proofs.Common.{◌≡◌, ℕ, zero, suc, ◌<◌, List, [], ◌∷◌, length, Option, Some, None, IfSome, inr, sym, subst, ◌∙◌, refl, arith}
 use Rattle.atl_outside.specs.Held.{Held, bytes_at}
 use Rattle.atl_cli.specs.declared.command.Command.{Command}
 use Rattle.atl_cli.specs.declared.command.Command.TheVariants as C
 use Rattle.atl_cli.specs.declared.status.Ending.{Ending}
 use Rattle.atl_cli.specs.declared.status.Ending.TheVariants as ending
-use Rattle.atl_cli.specs.declared.status.Status.{Status}
 use Rattle.atl_cli.specs.declared.status.Status.TheVariants as status
 use Rattle.atl_cli.specs.Answers.{Judges, JudgesBy, Ended, EndedBy}
 use Rattle.atl_cli.specs.Commands.{command_of}

@@ -1,10 +1,10 @@
 -- What clap makes of words, where a command has one argument that takes them all.
-use Rattle.std.proofs.Common.{◌≡◌, ◌≢◌, ◌∙◌, ◌⊎◌, inl, inr, ℕ, ◌≤◌, ◌<◌, ◌+◌, ◌==◌, ◌&&◌, ◌||◌, Bool, true, false, not, nat_lt, zero, suc, refl, sym, ap, subst, arith, List, [], ◌∷◌, ◌++◌, length, take, Option, Some, None, if◌then◌else◌, codes, append_assoc, append-nil}
+use Rattle.std.proofs.Common.{◌≡◌, ◌≢◌, ◌∙◌, ◌⊎◌, inl, inr, ℕ, ◌≤◌, ◌+◌, ◌==◌, ◌||◌, Bool, true, false, nat_lt, refl, sym, ap, subst, arith, List, [], ◌∷◌, ◌++◌, length, Option, Some, None, codes, append_assoc, append-nil}
 use Rattle.std.specs.Prelude.{slice_get, is_some, encode_utf8_all}
 use Rattle.std.specs.Char.{encode_utf8}
 use Rattle.std.specs.List.{fold, list_any, AllByRecursion}
 use Rattle.std.proofs.lemmas.List.{take_all}
-use Rattle.std.specs.Option.{option_map, option_and_then}
+use Rattle.std.specs.Option.{option_map}
 use Rattle.std.specs.Str.{IsUtf8, bytes_eq, chars}
 use Rattle.std.proofs.lemmas.Str.{IsUtf8-past_char, encodes-chars}
 use Rattle.std.proofs.lemmas.Slice.Eq.{bytes_eq-Decides}
@@ -16,8 +16,7 @@ use Rattle.clap.specs.Kinds.{IsAmong, Kinds, or_else, values_kinds}
 use Rattle.clap.specs.Matches.{found_of}
 use Rattle.clap.specs.Faults.{fault_of, walk_fault, turn_fault, entered_fault, settle_fault, defaults_fault, check_fault, flags_fault, is_simple_and_free}
 use Rattle.clap.specs.Simple.{App, HasMatchesOf, Shape, built, entered, matches_of, is_simple}
-use Rattle.clap.specs.Walk.{Rule, Text, Walk, Row, idle, positional, nothing_held, walked, walk, finished, settled, all_of, rows_of}
-use Rattle.clap.specs.declared.builder.action.ArgAction.TheVariants.{Append}
+use Rattle.clap.specs.Walk.{Text, Walk, Row, idle, positional, nothing_held, walked, finished, settled, all_of, rows_of}
 use Rattle.clap.specs.declared.builder.value_parser.ValueParser.TheVariants as vp
 use Rattle.clap.specs.declared.error.kind.ErrorKind.{ErrorKind}
 use Rattle.clap.specs.declared.error.kind.ErrorKind.TheVariants as kind

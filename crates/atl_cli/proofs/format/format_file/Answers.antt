@@ -1,4 +1,4 @@
-use Rattle.std.proofs.Common.{◌≡◌, List, ℕ, Option, MatchOption, Ok, Err, ap, sym, subst}
+use Rattle.std.proofs.Common.{List, ℕ, Option, MatchOption, Ok, Err, ap, sym, subst}
 use Rattle.std.proofs.lemmas.Result.{IfOk-weaker}
 use Rattle.atl_cli.specs.declared.status.Ending.TheVariants.{Ends}
 use Rattle.atl_cli.specs.declared.status.Size.TheVariants.{File}

@@ -1,4 +1,4 @@
-use Rattle.std.proofs.Common.{◌≡◌, ◌∙◌, sym, ap}
+use Rattle.std.proofs.Common.{◌∙◌, sym}
 use Rattle.atl_cli.proofs.Documents.{ends_at}
 use Rattle.atl_cli.proofs.format.opens_element.Goals as goal
 

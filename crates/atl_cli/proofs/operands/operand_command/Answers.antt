@@ -1,11 +1,11 @@
-use Rattle.std.proofs.Common.{rules, ◌≡◌, ◌∙◌, ap, ap₂, refl, codes, Option, Some, None, true, false, []}
+use Rattle.std.proofs.Common.{rules, ◌≡◌, ◌∙◌, ap, ap₂, codes, Option, Some, None, false, []}
 use Rattle.std.specs.Prelude.{IsSomeAnd}
 use Rattle.std.proofs.lemmas.Result.{IfOk-weaker}
 use Rattle.clap.specs.declared.builder.action.ArgAction.TheVariants.{Append}
 use Rattle.clap.specs.declared.builder.arg.Arg.{Arg}
 use Rattle.clap.specs.declared.builder.range.ValueRange.{ValueRange}
 use Rattle.clap.specs.Lexer.{usize_max}
-use Rattle.clap.specs.Words.{App, Rule, app_of, new_rule, rule_of, with_rule}
+use Rattle.clap.specs.Words.{Rule, app_of, new_rule, rule_of, with_rule}
 use Rattle.atl_cli.specs.OperandCommand.{operand_app, operand_rule}
 use Rattle.atl_cli.proofs.operands.operand_command.Goals as goal
 

@@ -1,4 +1,4 @@
-use Rattle.std.proofs.Common.{◌≡◌, ◌∙◌, ◌<◌, List, [], ℕ, map, get_or, length, sym, ap, subst, Bor, arith}
+use Rattle.std.proofs.Common.{◌∙◌, ◌<◌, List, [], ℕ, length, sym, subst, Bor, arith}
 use Rattle.std.proofs.lemmas.List.{get_or-map, length-map}
 use Rattle.atl_base.specs.XmlText.{IsXmlText}
 use Rattle.atl_cli.proofs.Taking.{no_offence}

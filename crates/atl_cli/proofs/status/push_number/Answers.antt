@@ -1,4 +1,4 @@
-use Rattle.std.proofs.Common.{◌≡◌, true, sym, subst, List, ℕ, ◌<◌, ◌^◌, arith, rules}
+use Rattle.std.proofs.Common.{◌≡◌, true, sym, subst, List, ℕ, ◌<◌, ◌^◌, arith}
 use Rattle.std.specs.List.{list_all}
 use Rattle.atl_base.specs.XmlText.{is_ascii_text}
 use Rattle.atl_cli.proofs.Digits.{decimal_ascii}

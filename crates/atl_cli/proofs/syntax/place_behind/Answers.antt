@@ -1,4 +1,4 @@
-use Rattle.std.proofs.Common.{◌≡◌, ◌≤◌, ◌∙◌, List, ℕ, length, ap, sym, subst, arith}
+use Rattle.std.proofs.Common.{◌∙◌, length, ap, sym, subst, arith}
 use Rattle.std.specs.Str.{IsUtf8}
 use Rattle.atl_base.proofs.XmlTexts.{IsUtf8-from_text}
 use Rattle.atl_cli.proofs.Places.{behind_mark, behind_shorter}
