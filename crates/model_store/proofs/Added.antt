@@ -1,10 +1,9 @@
 -- Adding an object to a reference leaves a model.
-use Rattle.std.proofs.Common.{◌≡◌, ◌≢◌, ℕ, zero, suc, ◌+◌, ◌<◌, ◌≤◌, ◌⊎◌, inl, inr, List, [], ◌∷◌, ◌++◌, length, refl, sym, ap, ◌∙◌, subst, ⊎_elim, arith, Option, Some, None}
-use Rattle.std.specs.Prelude.{◌==◌, ◌↔◌, Bool, true, false, slice_index_or, slice_get, option_map, is_some, if◌then◌else◌, Contains, All, IsSome}
+use Rattle.std.proofs.Common.{◌≡◌, ◌<◌, ◌≤◌, inl, inr, List, [], ◌∷◌, length, refl, sym, ap, ◌∙◌, subst, ⊎_elim, arith, Option, Some, None}
+use Rattle.std.specs.Prelude.{◌==◌, ◌↔◌, Bool, true, false, slice_index_or, slice_get, option_map, is_some, if◌then◌else◌, Contains, IsSome}
 use Rattle.std.specs.Option.{option_map_or, IsSomeAnd}
-use Rattle.std.proofs.lemmas.Bool.{cases_Bool, eqb-true, true≢false, false_from_ne_true}
+use Rattle.std.proofs.lemmas.Bool.{eqb-true, true≢false}
 use Rattle.std.proofs.lemmas.List.Quantifiers.{position-Some}
-use Rattle.std.proofs.lemmas.List.{get_or_default}
 use Rattle.std.proofs.lemmas.Option.{none-some, same_Some}
 use Rattle.atl_base.specs.declared.numbers.FeatId.{FeatId}
 use Rattle.atl_base.specs.declared.numbers.ObjId.{ObjId}
@@ -20,18 +19,16 @@ use Rattle.model_store.specs.Order.{IsOf}
 use Rattle.model_store.specs.declared.parts.Cellv.{Cellv}
 use Rattle.model_store.specs.declared.parts.Cellv.TheVariants.{Words, Int, Truth, Literal, Obj}
 use Rattle.model_store.specs.declared.parts.Object.{Object}
-use Rattle.model_store.specs.Contents.{Contents, object_at, class_of, slot, refers, is_many, contains, opposite, is_contained_by, refusal, holds, first_object, holder, container}
-use Rattle.model_store.specs.Valid.{IsModel, IsOfKind, IsOfType, Fits, HasSlot, Refers}
-use Rattle.model_store.specs.Writes.{unlink, give_up, give_up_back, leave, make_way, link, add}
-use Rattle.model_store.proofs.Created.{all_contained, slot_of, referred_to}
+use Rattle.model_store.specs.Contents.{Contents, object_at, class_of, slot, refers, is_many, contains, opposite, is_contained_by, refusal, first_object, holder}
+use Rattle.model_store.specs.Valid.{IsModel, IsOfKind, IsOfType, HasSlot, Refers}
+use Rattle.model_store.specs.Writes.{unlink, give_up, give_up_back, leave, make_way}
+use Rattle.model_store.proofs.Created.{all_contained, slot_of}
 use Rattle.model_store.proofs.CreatedModel.{seen_once}
 use Rattle.model_store.proofs.Holding.{holder_refers, uncontained, place_is}
 use Rattle.model_store.proofs.Slots.{at_of, has_slot, same_feature}
-use Rattle.model_store.proofs.Linked.{MayLink, HasRoom, link_is_model, link_class, link_meta, link_has}
-use Rattle.model_store.proofs.Removing.{IsWithout, IsThis}
-use Rattle.model_store.proofs.Thinned.{Contains_none, Contains_first, Contains_later, Contains_cases, held, holding, not_held}
-use Rattle.model_store.proofs.Unlinked.{IsFree, unlink_is_model, unlink_without, one_contains}
-use Rattle.model_store.proofs.Wired.{IsEnd, back_of, opposite_back, opposite_refers, still_of_type}
+use Rattle.model_store.proofs.Thinned.{Contains_none, Contains_first, Contains_later, Contains_cases}
+use Rattle.model_store.proofs.Unlinked.{IsFree, unlink_is_model, unlink_without}
+use Rattle.model_store.proofs.Wired.{back_of, opposite_back}
 
 -- ## Slots of references
 
@@ -71,7 +68,7 @@ one_only [] x y l h k = absurd (Contains_none x h)
 one_only (z ∷ []) x y l h k = ⊎_elim (λ e. ⊎_elim (λ i. sym e ∙ i) (λ n. absurd (Contains_none y n)) (Contains_cases z y [] k)) (λ n. absurd (Contains_none x n)) (Contains_cases z x [] h)
 one_only (z ∷ w ∷ xs) x y l h k = absurd (omega (arith, l))
 
-first_held : (cells : List Cellv) (q : ObjId) → first_object cells ≡ Some q → Contains cells (Obj q)
+pub first_held : (cells : List Cellv) (q : ObjId) → first_object cells ≡ Some q → Contains cells (Obj q)
 first_held [] q e = absurd (none-some q e)
 first_held (Obj p ∷ cells) q e = subst (λ z. Contains (Obj p ∷ cells) (Obj z)) (same_Some p q e) (Contains_first (Obj p) cells)
 first_held (Words t ∷ cells) q e = Contains_later (Words t) (Obj q) cells (first_held cells q e)

@@ -1,31 +1,26 @@
 -- A write to an attribute leaves a model.
-use Rattle.std.proofs.Common.{◌≡◌, ◌≢◌, ℕ, zero, suc, ◌+◌, ◌<◌, ◌≤◌, ◌⊎◌, inl, inr, List, [], ◌∷◌, ◌++◌, length, refl, sym, ap, ◌∙◌, subst, ⊎_elim, arith, Option, Some, None}
-use Rattle.std.specs.Prelude.{◌==◌, ◌↔◌, Bool, true, false, slice_index_or, slice_get, option_map, is_some, if◌then◌else◌, Contains, All, IsSome, IfSome}
+use Rattle.std.proofs.Common.{◌≡◌, ◌≢◌, zero, suc, List, [], ◌∷◌, ◌++◌, refl, sym, ap, ◌∙◌, subst, ⊎_elim, arith, Option, Some, None}
+use Rattle.std.specs.Prelude.{Bool, true, false, slice_index_or, slice_get, option_map, is_some, if◌then◌else◌, Contains, All, IsSome, IfSome}
 use Rattle.std.specs.Option.{option_map_or, IsSomeAnd}
 use Rattle.std.specs.List.{list_any}
 use Rattle.std.proofs.lemmas.Bool.{cases_eq, true≢false}
 use Rattle.std.proofs.lemmas.List.Elements.{All-append}
-use Rattle.atl_base.specs.declared.numbers.ClassId.{ClassId}
 use Rattle.atl_base.specs.declared.numbers.FeatId.{FeatId}
 use Rattle.atl_base.specs.declared.numbers.ObjId.{ObjId}
 use Rattle.ecore_meta.specs.declared.parts.Feature.{Feature}
 use Rattle.ecore_meta.specs.declared.parts.FeatKind.{FeatKind}
 use Rattle.ecore_meta.specs.declared.parts.FeatKind.TheVariants as Kind
-use Rattle.ecore_meta.specs.declared.parts.Parts.{Parts}
 use Rattle.ecore_meta.specs.Inheritance.{Conforms}
-use Rattle.ecore_meta.specs.Valid.{AllDiffer, IsMetamodel, is_reference, opposite_of, is_containment}
+use Rattle.ecore_meta.specs.Valid.{AllDiffer, IsMetamodel, is_reference}
 use Rattle.model_store.specs.declared.parts.Cellv.{Cellv}
 use Rattle.model_store.specs.declared.parts.Cellv.TheVariants.{Words, Int, Truth, Literal, Obj}
-use Rattle.model_store.specs.declared.parts.Object.{Object}
-use Rattle.model_store.specs.Contents.{Contents, object_at, class_of, slot, refers, is_many, is_unique, contains, opposite, container, refusal, set_slot, AreShaped}
-use Rattle.model_store.specs.Order.{IsOf}
+use Rattle.model_store.specs.Contents.{Contents, object_at, class_of, slot, refers, is_many, is_unique, set_slot, AreShaped}
 use Rattle.model_store.specs.Valid.{IsModel, IsConcrete, IsOfKind, IsOfType, Fits, HasSlot, Refers}
 use Rattle.model_store.specs.Writes.{initial, written, appended, with_value, replaced, rewired, write, same_value}
 use Rattle.model_store.proofs.Created.{some_and, all_contained}
 use Rattle.model_store.proofs.CreatedModel.{seen_once, initial_fits, has_default}
 use Rattle.model_store.proofs.Holding.{contained_not, uncontained}
-use Rattle.model_store.proofs.Slots.{IsAt, at_of, after, after_is, kept, elsewhere, here, refusal_kept, shaped_kept, slot_same, slot_other, same_object, same_feature}
-use Rattle.model_store.proofs.Thinned.{Contains_none}
+use Rattle.model_store.proofs.Slots.{IsAt, at_of, after, after_is, elsewhere, here, refusal_kept, shaped_kept, slot_same, slot_other, same_object, same_feature}
 
 -- the value of an attribute is no object
 attribute_value : (m : Contents) (kind : FeatKind) (q : ObjId) → is_reference kind ≡ false → IsOfKind m kind (Obj q) → ⊥

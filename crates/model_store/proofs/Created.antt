@@ -1,11 +1,11 @@
 -- A new object leaves a model.
-use Rattle.std.proofs.Common.{◌≡◌, ◌≢◌, ℕ, ◌+◌, ◌<◌, ◌≤◌, ◌⊎◌, inl, inr, List, [], ◌∷◌, ◌++◌, length, map, refl, sym, ap, ◌∙◌, subst, ⊎_elim, arith, cond, Option, Some, None}
-use Rattle.std.specs.Prelude.{◌==◌, ◌↔◌, nat_lt, Bool, true, false, slice_index_or, slice_get, position, option_map, is_some, if◌then◌else◌, Contains, All, AllPairs, IsSome, IfSome}
+use Rattle.std.proofs.Common.{◌≡◌, ◌≢◌, ℕ, ◌+◌, ◌<◌, ◌≤◌, List, [], ◌∷◌, ◌++◌, length, map, refl, sym, ap, ◌∙◌, subst, ⊎_elim, arith, Option, Some, None}
+use Rattle.std.specs.Prelude.{◌==◌, Bool, true, false, slice_index_or, slice_get, option_map, if◌then◌else◌, Contains, All}
 use Rattle.std.specs.Option.{option_map_or, IsSomeAnd}
-use Rattle.std.proofs.lemmas.Bool.{cases_eq, cases_lt, lt-ltb, true≢false}
+use Rattle.std.proofs.lemmas.Bool.{cases_eq, cases_lt}
 use Rattle.std.proofs.lemmas.List.{get_or_append_left, get_or_push, get_or_past, get_or-map, length_push}
 use Rattle.std.proofs.lemmas.List.Quantifiers.{position-Some}
-use Rattle.std.proofs.lemmas.Option.{none-some, same_Some}
+use Rattle.std.proofs.lemmas.Option.{none-some}
 use Rattle.atl_base.specs.declared.numbers.ClassId.{ClassId}
 use Rattle.atl_base.specs.declared.numbers.FeatId.{FeatId}
 use Rattle.atl_base.specs.declared.numbers.ObjId.{ObjId}
@@ -14,17 +14,16 @@ use Rattle.ecore_meta.specs.declared.parts.FeatKind.{FeatKind}
 use Rattle.ecore_meta.specs.declared.parts.FeatKind.TheVariants as Kind
 use Rattle.ecore_meta.specs.declared.parts.Parts.{Parts}
 use Rattle.ecore_meta.specs.Inheritance.{Conforms, features}
-use Rattle.ecore_meta.specs.Valid.{is_reference, IsMetamodel, IsTextOf}
+use Rattle.ecore_meta.specs.Valid.{is_reference}
 use Rattle.model_store.specs.declared.parts.Cellv.{Cellv}
 use Rattle.model_store.specs.declared.parts.Cellv.TheVariants.{Words, Int, Truth, Literal, Obj}
 use Rattle.model_store.specs.declared.parts.Object.{Object}
-use Rattle.model_store.specs.Contents.{Contents, object_at, class_of, slot, slot_in, place_in, refers, is_many, contains, AreShaped}
+use Rattle.model_store.specs.Contents.{Contents, object_at, class_of, slot, slot_in, place_in}
 use Rattle.model_store.specs.Order.{IsOf}
-use Rattle.model_store.specs.Valid.{IsModel, IsConcrete, IsOfKind, IsOfType, Fits, HasSlot, Refers}
+use Rattle.model_store.specs.Valid.{IsModel, IsOfKind, IsOfType, Fits, HasSlot, Refers}
 use Rattle.model_store.specs.Writes.{created, fresh, initial, initial_of, value_of_text}
-use Rattle.model_store.proofs.Slots.{IsAt, at_of, has_slot, same_object}
+use Rattle.model_store.proofs.Slots.{has_slot, same_object}
 use Rattle.model_store.proofs.Thinned.{Contains_none, Contains_cases}
-use Rattle.model_store.proofs.Updates.{found_within, shaped_push, fresh_shaped}
 
 -- ## What nothing was written to
 

@@ -1,12 +1,12 @@
 -- A model with a new object is a model.
-use Rattle.std.proofs.Common.{◌≡◌, ◌≢◌, ℕ, zero, suc, ◌+◌, ◌<◌, ◌≤◌, ◌⊎◌, inl, inr, List, [], ◌∷◌, ◌++◌, length, map, refl, sym, ap, ◌∙◌, subst, ⊎_elim, arith, cond, Option, Some, None}
-use Rattle.std.specs.Prelude.{◌==◌, ◌↔◌, nat_lt, Bool, true, false, slice_index_or, slice_get, position, option_map, is_some, if◌then◌else◌, Contains, All, AllPairs, IsSome, IfSome, codes, bytes_eq}
+use Rattle.std.proofs.Common.{◌≡◌, ◌≢◌, ℕ, zero, suc, ◌<◌, ◌≤◌, ◌⊎◌, inl, inr, List, [], ◌∷◌, length, map, refl, sym, ap, ◌∙◌, subst, ⊎_elim, arith, Option, Some, None}
+use Rattle.std.specs.Prelude.{◌==◌, ◌↔◌, nat_lt, Bool, true, false, slice_index_or, slice_get, position, option_map, is_some, if◌then◌else◌, Contains, All, IsSome, IfSome, bytes_eq}
 use Rattle.std.specs.Option.{option_map_or, IsSomeAnd}
 use Rattle.std.proofs.lemmas.Bool.{cases_eq, cases_lt, eqb-true, true≢false}
-use Rattle.std.proofs.lemmas.List.{get_or-map, get_or_default, get_or_push, length-map, length_push}
+use Rattle.std.proofs.lemmas.List.{get_or-map, get_or_default, length-map}
 use Rattle.std.proofs.lemmas.List.Elements.{Contains-append_left, Contains-append_right, Contains-append_cases}
 use Rattle.std.proofs.lemmas.List.Quantifiers.{position-Some, all_pairs_push}
-use Rattle.std.proofs.lemmas.Option.{none-some, same_Some, get_or_from_slice_get, slice_get_within}
+use Rattle.std.proofs.lemmas.Option.{same_Some, get_or_from_slice_get, slice_get_within}
 use Rattle.atl_base.specs.declared.numbers.ClassId.{ClassId}
 use Rattle.atl_base.specs.declared.numbers.FeatId.{FeatId}
 use Rattle.atl_base.specs.declared.numbers.ObjId.{ObjId}
@@ -18,16 +18,16 @@ use Rattle.ecore_meta.specs.declared.parts.Parts.{Parts}
 use Rattle.ecore_meta.specs.Inheritance.{features, name_of}
 use Rattle.ecore_meta.specs.Valid.{AllDiffer, is_reference, IsMetamodel, IsTextOf}
 use Rattle.model_store.specs.declared.parts.Cellv.{Cellv}
-use Rattle.model_store.specs.declared.parts.Cellv.TheVariants.{Words, Int, Truth, Literal, Obj}
+use Rattle.model_store.specs.declared.parts.Cellv.TheVariants.{Obj}
 use Rattle.model_store.specs.declared.parts.Object.{Object}
 use Rattle.model_store.specs.Contents.{Contents, object_at, class_of, slot, slot_in, place_in, refers, is_many, contains, opposite, container, refusal, AreShaped}
-use Rattle.model_store.specs.Valid.{IsModel, IsConcrete, IsOfKind, IsOfType, Fits, HasSlot, Refers}
-use Rattle.model_store.specs.Writes.{created, fresh, initial, initial_of, value_of_text, literal_of, literal_number}
+use Rattle.model_store.specs.Valid.{IsModel, IsConcrete, IsOfKind, Fits, HasSlot, Refers}
+use Rattle.model_store.specs.Writes.{created, fresh, initial, initial_of, value_of_text, literal_number}
 use Rattle.model_store.proofs.Slots.{same_object, same_feature, at_of, slot_at}
 use Rattle.model_store.proofs.Thinned.{Contains_cases}
 use Rattle.model_store.specs.declared.refusal.StoreRefusal.TheVariants.{NoObject, NoFeature}
 use Rattle.model_store.proofs.Holding.{SeenOnce, contained_not, uncontained}
-use Rattle.model_store.proofs.Created.{new, n, there, elsewhere, same_class, same_slot, old_object, referred_before, was_object, still_fits, referred_to, slot_of}
+use Rattle.model_store.proofs.Created.{new, there, elsewhere, same_class, same_slot, old_object, referred_before, was_object, still_fits, slot_of}
 use Rattle.model_store.proofs.Updates.{shaped_push, fresh_shaped}
 
 -- each feature is seen in a class of a metamodel once

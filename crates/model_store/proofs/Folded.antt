@@ -1,6 +1,6 @@
 -- A fold of writes is a model.
 use Rattle.std.proofs.Common.{◌≡◌, ℕ, zero, suc, ◌+◌, ◌<◌, ◌≤◌, List, [], ◌∷◌, ◌++◌, length, map, refl, sym, ap, ◌∙◌, subst, ⊎_elim, arith, append_assoc, Option, Some, None}
-use Rattle.std.specs.Prelude.{false, slice_get, slice_index_or, option_map, is_some, Contains, All, IfSome, if◌then◌else◌}
+use Rattle.std.specs.Prelude.{slice_get, slice_index_or, option_map, is_some, Contains, All, IfSome, if◌then◌else◌}
 use Rattle.std.specs.Option.{option_map_or}
 use Rattle.std.proofs.lemmas.Bool.{cases_lt, false≢true}
 use Rattle.std.proofs.lemmas.List.{append-nil, length_push, get_or_push, get_or_append_left, get_or_default, length-map}
@@ -16,9 +16,9 @@ use Rattle.model_store.specs.declared.parts.Object.{Object}
 use Rattle.model_store.specs.declared.refusal.StoreRefusal.{StoreRefusal}
 use Rattle.model_store.specs.declared.refusal.StoreRefusal.TheVariants.{NoObject, NoFeature}
 use Rattle.model_store.specs.Contents.{Contents, object_at, class_of, place_in, slot, is_many, refusal}
-use Rattle.model_store.specs.Folds.{Writing, empty, all_created, all_written, fold, MayCreate, MayWrite, IsStart, IsFoldLaw}
+use Rattle.model_store.specs.Folds.{Writing, empty, all_created, all_written, MayCreate, MayWrite, IsStart, IsFoldLaw}
 use Rattle.model_store.specs.Laws.{KeepsObjects}
-use Rattle.model_store.specs.Valid.{IsModel, IsConcrete, Fits, HasSlot}
+use Rattle.model_store.specs.Valid.{IsModel, IsConcrete, HasSlot}
 use Rattle.model_store.specs.Writes.{fresh, created, write}
 use Rattle.model_store.proofs.Created.{slot_of}
 use Rattle.model_store.proofs.CreatedModel.{created_is_model}

@@ -1,5 +1,5 @@
 -- An object has no container exactly where no containment slot holds it.
-use Rattle.std.proofs.Common.{◌≡◌, ℕ, zero, suc, ◌+◌, ◌<◌, ◌≤◌, List, [], ◌∷◌, length, refl, sym, ap, ◌∙◌, subst, arith, cond, Option, Some, None}
+use Rattle.std.proofs.Common.{◌≡◌, ℕ, zero, suc, ◌+◌, ◌<◌, List, [], ◌∷◌, length, refl, sym, ap, ◌∙◌, subst, arith, cond, Option, Some, None}
 use Rattle.std.specs.Prelude.{◌==◌, nat_lt, Bool, true, false, slice_index_or, option_map, if◌then◌else◌, Contains}
 use Rattle.std.specs.Option.{option_map_or}
 use Rattle.std.proofs.lemmas.Bool.{eqb-true, eq-eqb, lt-ltb, true≢false, false_from_ne_true}
@@ -14,7 +14,7 @@ use Rattle.ecore_meta.specs.Inheritance.{features}
 use Rattle.model_store.specs.declared.parts.Cellv.{Cellv}
 use Rattle.model_store.specs.declared.parts.Cellv.TheVariants.{Obj}
 use Rattle.model_store.specs.declared.parts.Object.{Object}
-use Rattle.model_store.specs.Contents.{Contents, AreShaped, object_at, slot, slot_in, place_in, contains, holds, holding_feature, holding_in, holding_place, holder_from, holder, container}
+use Rattle.model_store.specs.Contents.{Contents, AreShaped, object_at, slot_in, place_in, contains, holds, holding_feature, holding_in, holding_place, holder_from, holder, container}
 use Rattle.model_store.specs.Valid.{Refers}
 use Rattle.model_store.proofs.Slots.{same_feature}
 use Rattle.model_store.proofs.Thinned.{held, holding, Contains_none}

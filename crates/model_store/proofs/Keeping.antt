@@ -67,23 +67,23 @@ taken_in_keeps : (o : ObjId) (m : Contents) → KeepsObjects m (taken_in o m)
 taken_in_keeps o m = record { meta = refl; numbers = refl; classes = λ p. refl }
 
 module _ (o : ObjId) (f : FeatId) (q : ObjId) (m : Contents) where
-  cut_keeps : KeepsObjects m (cut o f q m)
+  pub cut_keeps : KeepsObjects m (cut o f q m)
   unfolding cut
   cut_keeps = set_slot_keeps m o f (without q (slot m o f))
 
-  join_keeps : KeepsObjects m (join o f q m)
+  pub join_keeps : KeepsObjects m (join o f q m)
   unfolding join
   join_keeps = either m m (set_slot m o f (slot m o f ++ Obj q ∷ [])) (holds q (slot m o f)) (same m) (set_slot_keeps m o f (slot m o f ++ Obj q ∷ []))
 
-cut_back_keeps : (o : ObjId) (f : FeatId) (q : ObjId) (m : Contents) → KeepsObjects m (cut_back o f q m)
+pub cut_back_keeps : (o : ObjId) (f : FeatId) (q : ObjId) (m : Contents) → KeepsObjects m (cut_back o f q m)
 unfolding cut_back
 cut_back_keeps o f q m = where_some m m (λ g. cut q g o m) (opposite m.meta f) (λ g. cut_keeps q g o m) (same m)
 
-join_back_keeps : (o : ObjId) (f : FeatId) (q : ObjId) (m : Contents) → KeepsObjects m (join_back o f q m)
+pub join_back_keeps : (o : ObjId) (f : FeatId) (q : ObjId) (m : Contents) → KeepsObjects m (join_back o f q m)
 unfolding join_back
 join_back_keeps o f q m = where_some m m (λ g. join q g o m) (opposite m.meta f) (λ g. join_keeps q g o m) (same m)
 
-free_ends_keeps : (o : ObjId) (f : FeatId) (q : ObjId) (m : Contents) → KeepsObjects m (free_ends o f q m)
+pub free_ends_keeps : (o : ObjId) (f : FeatId) (q : ObjId) (m : Contents) → KeepsObjects m (free_ends o f q m)
 unfolding free_ends
 free_ends_keeps o f q m = either m (freed q m) (if is_contained_by m.meta f then freed o m else m) (contains m.meta f) (freed_keeps q m)
     (either m (freed o m) m (is_contained_by m.meta f) (freed_keeps o m) (same m))
@@ -93,37 +93,37 @@ unfolding take_ends_in
 take_ends_in_keeps o f q m = either m (taken_in q m) (if is_contained_by m.meta f then taken_in o m else m) (contains m.meta f) (taken_in_keeps q m)
     (either m (taken_in o m) m (is_contained_by m.meta f) (taken_in_keeps o m) (same m))
 
-unlink_keeps : (o : ObjId) (f : FeatId) (q : ObjId) (m : Contents) → KeepsObjects m (unlink o f q m)
+pub unlink_keeps : (o : ObjId) (f : FeatId) (q : ObjId) (m : Contents) → KeepsObjects m (unlink o f q m)
 unfolding unlink
 unlink_keeps o f q m =
     let one : Contents = cut o f q m in
     let two : Contents = cut_back o f q one in
     after m two (free_ends o f q two) (after m one two (cut_keeps o f q m) (cut_back_keeps o f q one)) (free_ends_keeps o f q two)
 
-link_keeps : (o : ObjId) (f : FeatId) (q : ObjId) (m : Contents) → KeepsObjects m (link o f q m)
+pub link_keeps : (o : ObjId) (f : FeatId) (q : ObjId) (m : Contents) → KeepsObjects m (link o f q m)
 unfolding link
 link_keeps o f q m =
     let one : Contents = join o f q m in
     let two : Contents = join_back o f q one in
     after m two (take_ends_in o f q two) (after m one two (join_keeps o f q m) (join_back_keeps o f q one)) (take_ends_in_keeps o f q two)
 
-give_up_keeps : (o : ObjId) (f : FeatId) (m : Contents) → KeepsObjects m (give_up o f m)
+pub give_up_keeps : (o : ObjId) (f : FeatId) (m : Contents) → KeepsObjects m (give_up o f m)
 unfolding give_up
 give_up_keeps o f m = either m m (option_map_or (λ q. unlink o f q m) (first_object (slot m o f)) m) (is_many m.meta f) (same m)
     (where_some m m (λ q. unlink o f q m) (first_object (slot m o f)) (λ q. unlink_keeps o f q m) (same m))
 
-give_up_back_keeps : (f : FeatId) (p : ObjId) (m : Contents) → KeepsObjects m (give_up_back f p m)
+pub give_up_back_keeps : (f : FeatId) (p : ObjId) (m : Contents) → KeepsObjects m (give_up_back f p m)
 unfolding give_up_back
 give_up_back_keeps f p m = where_some m m (λ g. if is_many m.meta g then m else option_map_or (λ r. unlink r f p m) (first_object (slot m p g)) m) (opposite m.meta f)
     (λ g. either m m (option_map_or (λ r. unlink r f p m) (first_object (slot m p g)) m) (is_many m.meta g) (same m)
     (where_some m m (λ r. unlink r f p m) (first_object (slot m p g)) (λ r. unlink_keeps r f p m) (same m)))
     (same m)
 
-leave_keeps : (p : ObjId) (m : Contents) → KeepsObjects m (leave p m)
+pub leave_keeps : (p : ObjId) (m : Contents) → KeepsObjects m (leave p m)
 unfolding leave
 leave_keeps p m = where_some m m (λ at. unlink at.0 at.1 p m) (holder m p) (λ at. unlink_keeps at.0 at.1 p m) (same m)
 
-make_way_keeps : (o : ObjId) (f : FeatId) (p : ObjId) (m : Contents) → KeepsObjects m (make_way o f p m)
+pub make_way_keeps : (o : ObjId) (f : FeatId) (p : ObjId) (m : Contents) → KeepsObjects m (make_way o f p m)
 unfolding make_way
 make_way_keeps o f p m = either m (leave p m) (if is_contained_by m.meta f then leave o m else m) (contains m.meta f) (leave_keeps p m)
     (either m (leave o m) m (is_contained_by m.meta f) (leave_keeps o m) (same m))

@@ -9,7 +9,7 @@ use Rattle.model_store.specs.declared.refusal.StoreRefusal.{StoreRefusal}
 use Rattle.model_store.specs.declared.refusal.StoreRefusal.TheVariants.{NoObject, NoFeature, BadType, Full, Memory}
 use Rattle.model_store.specs.Contents.{Contents}
 use Rattle.model_store.specs.Valid.{IsConcrete, IsValid}
-use Rattle.model_store.specs.Writes.{created, write, Creates, Writes}
+use Rattle.model_store.specs.Writes.{Creates, Writes}
 use Rattle.model_store.proofs.CreatedModel.{created_is_model}
 use Rattle.model_store.proofs.Keeping.{write_keeps}
 use Rattle.model_store.proofs.ReferenceWrites.{write_is_model}

@@ -3,6 +3,7 @@ mod Climbing
 mod Counted
 mod Cuts
 mod Digits
+mod Exchanges
 mod Folded
 mod Holders
 mod Keeping
@@ -11,6 +12,7 @@ mod LoneModel
 mod NamedObjects
 mod Numbers
 mod Noting
+mod Pairing
 mod PathDigits
 mod PathRoots
 mod PathRows
@@ -35,3 +37,4 @@ pub mod Unlinked
 pub mod Linked
 pub mod Added
 pub mod ReferenceWrites
+pub mod Ready

@@ -1,29 +1,26 @@
 -- A pair appended leaves a model, where there is room for it.
-use Rattle.std.proofs.Common.{◌≡◌, ◌≢◌, ℕ, zero, suc, ◌+◌, ◌<◌, ◌≤◌, ◌⊎◌, inl, inr, List, [], ◌∷◌, ◌++◌, length, refl, sym, ap, ◌∙◌, subst, ⊎_elim, arith, Option, Some, None}
-use Rattle.std.specs.Prelude.{◌==◌, Bool, true, false, slice_index_or, slice_get, option_map, is_some, if◌then◌else◌, Contains, All, IsSome, IfSome}
+use Rattle.std.proofs.Common.{◌≡◌, ◌≢◌, ◌≤◌, ◌⊎◌, inl, inr, List, [], ◌∷◌, ◌++◌, length, refl, sym, ap, ◌∙◌, subst, ⊎_elim, arith, Option, Some, None}
+use Rattle.std.specs.Prelude.{Bool, true, false, slice_index_or, slice_get, is_some, if◌then◌else◌, Contains, All, IsSome, IfSome}
 use Rattle.std.specs.Option.{option_map_or, IsSomeAnd}
-use Rattle.std.proofs.lemmas.Bool.{cases_Bool, cases_eq, true≢false}
+use Rattle.std.proofs.lemmas.Bool.{cases_eq, true≢false}
 use Rattle.std.proofs.lemmas.List.{get_or_default, length-append}
 use Rattle.std.proofs.lemmas.List.Elements.{Contains-append_left, Contains-append_right, Contains-append_cases}
 use Rattle.std.proofs.lemmas.List.Quantifiers.{all_pairs_push}
 use Rattle.std.proofs.lemmas.Option.{none-some, same_Some}
 use Rattle.atl_base.specs.declared.numbers.FeatId.{FeatId}
 use Rattle.atl_base.specs.declared.numbers.ObjId.{ObjId}
-use Rattle.ecore_meta.specs.declared.parts.Feature.{Feature}
-use Rattle.ecore_meta.specs.declared.parts.Parts.{Parts}
 use Rattle.ecore_meta.specs.Valid.{AllDiffer, IsMetamodel}
 use Rattle.model_store.specs.declared.parts.Cellv.{Cellv}
 use Rattle.model_store.specs.declared.parts.Cellv.TheVariants.{Obj}
-use Rattle.model_store.specs.declared.parts.Object.{Object}
 use Rattle.model_store.specs.Contents.{Contents, object_at, class_of, slot, refers, is_many, contains, opposite, is_contained_by, refusal, holds, set_slot, AreShaped}
-use Rattle.model_store.specs.Valid.{IsModel, IsConcrete, IsOfKind, IsOfType, Fits, HasSlot, Refers}
+use Rattle.model_store.specs.Valid.{IsModel, IsConcrete, IsOfType, Fits, HasSlot, Refers}
 use Rattle.model_store.specs.Writes.{join, join_back, take_ends_in, link, taken_in, without_root}
 use Rattle.model_store.proofs.Created.{all_contained}
 use Rattle.model_store.proofs.ListedRoots.{left_root, root_left, left_differ}
 use Rattle.model_store.proofs.Removing.{IsChanged, IsThis, join_changes}
 use Rattle.model_store.proofs.Slots.{same_object, same_feature}
-use Rattle.model_store.proofs.Thinned.{Contains_none, Contains_cases, Contains_first, held, holding, not_held}
-use Rattle.model_store.proofs.Wired.{IsWired, wired, GoInPairs, IsEnd, ends_go_in_pairs, opposite_back, opposite_refers, still_of_type}
+use Rattle.model_store.proofs.Thinned.{Contains_none, Contains_cases, Contains_first, held, not_held}
+use Rattle.model_store.proofs.Wired.{IsWired, IsEnd, ends_go_in_pairs, opposite_refers, still_of_type}
 use Rattle.model_store.proofs.Unlinked.{IsFree, AreRoots, are_roots, model_of, one_contains, contained_end, other_roots}
 
 -- References are new, and nothing else is changed.
@@ -368,3 +365,15 @@ module _ (m : Contents) (valid : IsMetamodel m.meta) (model : IsModel m) (o : Ob
       on true b = both.has p g
       on false true = both.has p g
       on false false = both.has p g
+
+  -- and its ends alone are new
+  same_but_roots : (roots : List ObjId) → IsWith m (record { meta = now.meta; objects = now.objects; roots = roots }) New
+  same_but_roots roots = record { meta = both.meta; shaped = both.shaped; class = both.class; exists = both.exists; has = both.has; more = both.more; new = both.new; known = both.known; single = both.single; differ = both.differ; attributes = both.attributes }
+
+  pub link_with : IsWith m (link o f q m) New
+  link_with = subst (λ n. IsWith m n New) (sym taken_by_meta) (on (contains m.meta f) (is_contained_by m.meta f))
+    where
+      on : (a b : Bool) → IsWith m (if a then taken_in q now else (if b then taken_in o now else now)) New
+      on true b = same_but_roots (without_root q now.roots)
+      on false true = same_but_roots (without_root o now.roots)
+      on false false = both

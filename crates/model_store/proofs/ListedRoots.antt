@@ -1,13 +1,13 @@
 -- Lists of roots with one more, and with one less.
-use Rattle.std.proofs.Common.{◌≡◌, ◌≢◌, ℕ, zero, suc, ◌<◌, ◌⊎◌, inl, inr, List, [], ◌∷◌, ◌++◌, length, take, drop, refl, sym, ap, ◌∙◌, subst, ⊎_elim, arith}
-use Rattle.std.specs.Prelude.{◌==◌, Bool, true, false, not, nat_lt, slice_index_or, if◌then◌else◌, Contains, All, filter}
-use Rattle.std.specs.List.{insert, position_or_len}
-use Rattle.std.proofs.lemmas.Bool.{cases_eq, eqb-true, eq-eqb, true≢false, not_from_true}
+use Rattle.std.proofs.Common.{◌≡◌, ◌≢◌, ℕ, zero, suc, ◌⊎◌, inl, inr, List, [], ◌∷◌, refl, sym, ap, ◌∙◌, subst, ⊎_elim, arith}
+use Rattle.std.specs.Prelude.{◌==◌, Bool, true, false, not, slice_index_or, if◌then◌else◌, Contains, All}
+use Rattle.std.specs.List.{insert}
+use Rattle.std.proofs.lemmas.Bool.{eqb-true, eq-eqb, true≢false}
 use Rattle.std.proofs.lemmas.List.{get_or_default}
 use Rattle.std.proofs.lemmas.List.Kept.{AllPairs-cons, AllPairs-filter}
 use Rattle.atl_base.specs.declared.numbers.ObjId.{ObjId}
 use Rattle.ecore_meta.specs.Valid.{AllDiffer}
-use Rattle.model_store.specs.Writes.{with_root, without_root}
+use Rattle.model_store.specs.Writes.{without_root}
 use Rattle.model_store.proofs.Slots.{same_object}
 use Rattle.model_store.proofs.Thinned.{Contains_first, Contains_later, Contains_none, Contains_cases}
 

@@ -1,10 +1,9 @@
 -- Two objects of a class without features, both roots, make a model.
-use Rattle.std.proofs.Common.{◌≡◌, ◌≢◌, ℕ, zero, suc, ◌<◌, ◌≤◌, ◌⊎◌, inl, inr, true, false, List, [], ◌∷◌, length, map, refl, sym, ap, ◌∙◌, subst, ⊎_elim, arith, Option, Some, None}
-use Rattle.std.specs.Prelude.{◌==◌, slice_index_or, position, option_map, is_some, slice_get, codes, Contains, IfSome, IsSome}
+use Rattle.std.proofs.Common.{◌≡◌, ◌≢◌, ℕ, zero, suc, ◌<◌, false, List, [], ◌∷◌, length, refl, sym, ap, ◌∙◌, subst, ⊎_elim, arith, Option, Some, None}
+use Rattle.std.specs.Prelude.{◌==◌, slice_index_or, position, option_map, slice_get, codes, Contains, IfSome, IsSome}
 use Rattle.std.proofs.lemmas.Bool.{false≢true}
 use Rattle.std.proofs.lemmas.List.{get_or_default}
 use Rattle.std.proofs.lemmas.Option.{none-some, same_Some}
-use Rattle.atl_base.specs.declared.numbers.ClassId.{ClassId}
 use Rattle.atl_base.specs.declared.numbers.FeatId.{FeatId}
 use Rattle.atl_base.specs.declared.numbers.ObjId.{ObjId}
 use Rattle.ecore_meta.specs.declared.parts.Class.{Class}
@@ -14,7 +13,7 @@ use Rattle.ecore_meta.specs.Valid.{IsMetamodel}
 use Rattle.model_store.specs.declared.parts.Cellv.{Cellv}
 use Rattle.model_store.specs.declared.parts.Cellv.TheVariants.{Obj}
 use Rattle.model_store.specs.declared.parts.Object.{Object}
-use Rattle.model_store.specs.Contents.{Contents, object_at, class_of, slot, place_in, container, IsShaped}
+use Rattle.model_store.specs.Contents.{Contents, object_at, slot, place_in, container, IsShaped}
 use Rattle.model_store.specs.Valid.{IsModel, IsConcrete, HasSlot}
 use Rattle.model_store.proofs.Created.{slot_of}
 use Rattle.model_store.proofs.CreatedModel.{seen_once}

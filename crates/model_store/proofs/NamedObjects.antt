@@ -1,7 +1,7 @@
 -- What a fragment names is an object.
-use Rattle.std.proofs.Common.{◌≡◌, ℕ, zero, suc, ◌<◌, ◌≤◌, Bool, true, false, List, [], ◌∷◌, length, get_or, refl, sym, ap, ◌∙◌, subst, arith, Option, Some, None}
+use Rattle.std.proofs.Common.{◌≡◌, ℕ, Bool, true, false, List, [], ◌∷◌, ap, subst, Option, Some, None}
 use Rattle.std.specs.Prelude.{◌==◌, slice_get, is_some, Contains, IsSome, if◌then◌else◌}
-use Rattle.std.specs.List.{list_any, slice_split, before_first, after_first}
+use Rattle.std.specs.List.{list_any, before_first, after_first}
 use Rattle.std.specs.Option.{option_and_then}
 use Rattle.std.proofs.lemmas.Option.{none-some, same_Some, option_and_then_some, slice_get_within, get_or_from_slice_get}
 use Rattle.atl_base.specs.declared.numbers.ClassId.{ClassId}

@@ -1,6 +1,6 @@
 -- A path begins at a root: above an object there are no more levels than objects, and the top one is a root.
-use Rattle.std.proofs.Common.{◌≡◌, ◌≢◌, ℕ, zero, suc, ◌+◌, ◌<◌, ◌≤◌, ◌^◌, ◌⊎◌, inl, inr, Bool, true, false, List, [], ◌∷◌, ◌++◌, length, get_or, refl, sym, ap, ◌∙◌, subst, ⊎_elim, arith, cond, Option, Some, None}
-use Rattle.std.specs.Prelude.{◌==◌, slice_get, slice_index_or, option_map, is_some, Contains, IsSome, if◌then◌else◌}
+use Rattle.std.proofs.Common.{◌≡◌, ℕ, zero, suc, ◌+◌, ◌<◌, ◌≤◌, ◌^◌, ◌⊎◌, inl, inr, Bool, true, false, List, [], ◌∷◌, length, get_or, refl, sym, ap, ◌∙◌, subst, ⊎_elim, arith, Option, Some, None}
+use Rattle.std.specs.Prelude.{◌==◌, slice_index_or, option_map, is_some, Contains, IsSome, if◌then◌else◌}
 use Rattle.std.specs.Fmt.{decimal}
 use Rattle.std.specs.List.{position_or_len, list_any}
 use Rattle.std.specs.Option.{option_map_or}
@@ -10,18 +10,18 @@ use Rattle.atl_base.specs.declared.numbers.FeatId.{FeatId}
 use Rattle.atl_base.specs.declared.numbers.ObjId.{ObjId}
 use Rattle.ecore_meta.specs.declared.parts.Parts.{Parts}
 use Rattle.ecore_meta.specs.Inheritance.{features}
-use Rattle.ecore_meta.specs.Valid.{AllDiffer, IsMetamodel}
+use Rattle.ecore_meta.specs.Valid.{IsMetamodel}
 use Rattle.model_store.specs.declared.parts.Cellv.{Cellv}
 use Rattle.model_store.specs.declared.parts.Cellv.TheVariants.{Words, Int, Truth, Literal, Obj}
 use Rattle.model_store.specs.declared.parts.Object.{Object}
 use Rattle.model_store.specs.Contents.{Contents, object_at, contains, objects_of, is_object_no, holder, container}
-use Rattle.model_store.specs.Order.{contents, contents_in, contents_of, HasNoCycle}
+use Rattle.model_store.specs.Order.{contents_in, contents_of, HasNoCycle}
 use Rattle.model_store.specs.Paths.{is_slash, at_number, root_named, top_within}
 use Rattle.model_store.specs.Valid.{IsModel, Refers}
-use Rattle.model_store.proofs.Chains.{object_no, HasContent, IsChain, IsChain-one, length-chain}
+use Rattle.model_store.proofs.Chains.{HasContent, IsChain, IsChain-one, length-chain}
 use Rattle.model_store.proofs.Counted.{placed_within, placed_at, at_most}
 use Rattle.model_store.proofs.CreatedModel.{seen_once}
-use Rattle.model_store.proofs.Holding.{IsReferredIn, referred, no_slots, holder_refers}
+use Rattle.model_store.proofs.Holding.{referred, no_slots, holder_refers}
 use Rattle.model_store.proofs.PathDigits.{at_decimal, decimal_no_slash}
 use Rattle.model_store.proofs.Slots.{same_object}
 use Rattle.model_store.proofs.Thinned.{Contains_first, Contains_later, Contains_none, Contains_cases}

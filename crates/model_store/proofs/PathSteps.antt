@@ -1,13 +1,13 @@
 -- A step of a path leads from a container back to its content.
-use Rattle.std.proofs.Common.{◌≡◌, ◌≢◌, ℕ, zero, suc, ◌+◌, ◌<◌, ◌≤◌, ◌^◌, ◌⊎◌, inl, inr, pos, Bool, true, false, List, [], ◌∷◌, ◌++◌, length, map, take, drop, refl, sym, ap, ◌∙◌, subst, arith, cond, Option, Some, None}
-use Rattle.std.specs.Prelude.{◌&&◌, ◌||◌, ◌==◌, not, slice_get, slice_index_or, option_map, find, Contains, All, if◌then◌else◌}
+use Rattle.std.proofs.Common.{◌≡◌, ℕ, ◌+◌, ◌<◌, ◌≤◌, ◌^◌, ◌⊎◌, inl, inr, pos, Bool, true, false, List, [], ◌∷◌, ◌++◌, length, take, drop, refl, sym, ap, ◌∙◌, subst, arith, cond, Option, Some, None}
+use Rattle.std.specs.Prelude.{◌||◌, ◌==◌, not, slice_get, slice_index_or, option_map, Contains, if◌then◌else◌}
 use Rattle.std.specs.Fmt.{decimal}
 use Rattle.std.specs.List.{list_any, position_or_len, before_first, after_first}
 use Rattle.std.specs.Option.{option_map_or, option_and_then}
 use Rattle.std.specs.Str.{bytes_eq}
 use Rattle.std.proofs.Math.Seq.{take-append_seam, drop-append-add}
-use Rattle.std.proofs.lemmas.Bool.{and_from, and_parts, or_parts, ne_eqb, eqb-true, true≢false, false_from_ne_true}
-use Rattle.std.proofs.lemmas.List.{append-nil, get_or-map, get_or_default, length-map}
+use Rattle.std.proofs.lemmas.Bool.{and_from, and_parts, or_parts, eqb-true, false_from_ne_true}
+use Rattle.std.proofs.lemmas.List.{append-nil, get_or-map, length-map}
 use Rattle.std.proofs.lemmas.List.Folds.{find_at}
 use Rattle.std.proofs.lemmas.List.Quantifiers.{position-Some}
 use Rattle.std.proofs.lemmas.List.Sums.{position_or_len_is}
@@ -19,20 +19,18 @@ use Rattle.atl_base.specs.declared.numbers.ObjId.{ObjId}
 use Rattle.ecore_meta.specs.declared.parts.Feature.{Feature}
 use Rattle.ecore_meta.specs.declared.parts.Parts.{Parts}
 use Rattle.ecore_meta.specs.Inheritance.{features, name_of}
-use Rattle.ecore_meta.specs.Valid.{AllDiffer, IsMetamodel}
+use Rattle.ecore_meta.specs.Valid.{IsMetamodel}
 use Rattle.ecore_meta.specs.Names.{IsName, HasNoDot}
 use Rattle.model_store.specs.declared.parts.Cellv.{Cellv}
 use Rattle.model_store.specs.declared.parts.Cellv.TheVariants.{Words, Int, Truth, Literal, Obj}
-use Rattle.model_store.specs.declared.parts.Object.{Object}
-use Rattle.model_store.specs.Contents.{Contents, object_at, class_of, is_many, contains, refers, slot, refers_to, holds, first_object, holder}
-use Rattle.model_store.specs.Valid.{IsModel, IsOfType, Fits, Refers}
-use Rattle.model_store.specs.Paths.{is_dot, is_slash, is_content, content_feature, content_at, object_in, at_number, many_content, single_content, content_in_class, content_named}
+use Rattle.model_store.specs.Contents.{Contents, object_at, is_many, contains, refers, slot, refers_to, first_object, holder}
+use Rattle.model_store.specs.Valid.{IsModel, IsOfType, Refers}
+use Rattle.model_store.specs.Paths.{is_dot, is_slash, is_content, content_feature, content_at, object_in, many_content, single_content, content_in_class, content_named}
 use Rattle.model_store.specs.declared.path.Step.{Step}
 use Rattle.model_store.proofs.Added.{object_of_type, contains_refers}
 use Rattle.model_store.proofs.Counted.{placed_within, placed_at, at_most}
 use Rattle.model_store.proofs.Created.{all_contained, slot_of, there_by_type}
 use Rattle.model_store.proofs.CreatedModel.{seen_once}
-use Rattle.model_store.proofs.Cuts.{any_within, any_past}
 use Rattle.model_store.proofs.Holding.{holder_refers}
 use Rattle.model_store.proofs.PathDigits.{at_decimal, any_append, decimal_no_slash, name_no_slash}
 use Rattle.model_store.proofs.Slots.{same_object, same_feature, IsAt, at_of}

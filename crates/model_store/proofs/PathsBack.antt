@@ -1,6 +1,6 @@
 -- The path of an object names it.
-use Rattle.std.proofs.Common.{◌≡◌, ℕ, zero, suc, ◌<◌, ◌^◌, Bool, true, false, List, [], ◌∷◌, ◌++◌, length, map, refl, sym, ap, ◌∙◌, arith, cond, Option, Some, None}
-use Rattle.std.specs.Prelude.{◌||◌, ◌==◌, IsSome, flat_map, if◌then◌else◌}
+use Rattle.std.proofs.Common.{◌≡◌, ℕ, zero, suc, ◌<◌, ◌^◌, Bool, true, false, List, [], ◌∷◌, ◌++◌, length, map, refl, ap, ◌∙◌, cond, Option, Some, None}
+use Rattle.std.specs.Prelude.{IsSome, flat_map}
 use Rattle.std.specs.List.{list_any, slice_split, onto_first}
 use Rattle.std.specs.Option.{option_map_or}
 use Rattle.std.proofs.lemmas.Bool.{or_parts, true≢false}
@@ -11,7 +11,7 @@ use Rattle.ecore_meta.specs.Valid.{IsMetamodel}
 use Rattle.model_store.specs.declared.path.Step.{Step}
 use Rattle.model_store.specs.Contents.{Contents, object_at, holder}
 use Rattle.model_store.specs.Order.{HasNoCycle}
-use Rattle.model_store.specs.Paths.{is_slash, parts_of, step_text, steps_within, top_within, path, root_named, content_named, descend, at_parts, object_of_path}
+use Rattle.model_store.specs.Paths.{is_slash, parts_of, step_text, steps_within, top_within, path, content_named, descend, at_parts, object_of_path}
 use Rattle.model_store.specs.Valid.{IsModel}
 use Rattle.model_store.proofs.PathRoots.{top_is_root, digits, root_back, root_no_slash}
 use Rattle.model_store.proofs.PathSteps.{step, part, step_back, step_no_slash}

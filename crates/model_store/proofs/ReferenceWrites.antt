@@ -1,16 +1,15 @@
 -- A write to a reference leaves a model.
-use Rattle.std.proofs.Common.{◌≡◌, ◌≢◌, ℕ, zero, suc, ◌+◌, ◌<◌, ◌⊎◌, inl, inr, List, [], ◌∷◌, length, refl, sym, ap, ◌∙◌, subst, ⊎_elim, arith, Option, Some, None}
-use Rattle.std.specs.Prelude.{Bool, true, false, is_some, if◌then◌else◌, Contains, All, IsSome, slice_get}
-use Rattle.std.specs.Option.{option_map_or, IsSomeAnd}
+use Rattle.std.proofs.Common.{◌≡◌, suc, inl, inr, List, [], ◌∷◌, refl, sym, ap, ◌∙◌, subst, arith, Some}
+use Rattle.std.specs.Prelude.{Bool, true, false, is_some, if◌then◌else◌, All, IsSome}
+use Rattle.std.specs.Option.{option_map_or}
 use Rattle.std.proofs.lemmas.Bool.{true≢false}
-use Rattle.std.proofs.lemmas.Option.{none-some}
 use Rattle.atl_base.specs.declared.numbers.FeatId.{FeatId}
 use Rattle.atl_base.specs.declared.numbers.ObjId.{ObjId}
 use Rattle.ecore_meta.specs.Valid.{IsMetamodel}
 use Rattle.model_store.specs.declared.parts.Cellv.{Cellv}
 use Rattle.model_store.specs.declared.parts.Cellv.TheVariants.{Obj}
-use Rattle.model_store.specs.Contents.{Contents, object_at, class_of, slot, refers, is_many, contains, opposite, is_contained_by, refusal, holds, set_slot}
-use Rattle.model_store.specs.Valid.{IsModel, IsOfType, Fits, HasSlot, Refers}
+use Rattle.model_store.specs.Contents.{Contents, object_at, class_of, slot, refers, is_many, contains, opposite, refusal, holds, set_slot}
+use Rattle.model_store.specs.Valid.{IsModel, IsOfType, Fits, HasSlot}
 use Rattle.model_store.specs.Writes.{give_up, give_up_back, make_way, link, add, add_value, add_all, rewired, write, written}
 use Rattle.model_store.proofs.Added.{IsLess, less_less, object_of_type, empty_slot, GivesUp, gives_up, GivesBack, gives_back, MakesWay, makes_way, other_end}
 use Rattle.model_store.proofs.AttributeWrites.{attribute_write_is_model}
@@ -18,7 +17,7 @@ use Rattle.model_store.proofs.Created.{there_by_type}
 use Rattle.model_store.proofs.Linked.{MayLink, HasRoom, link_is_model, link_class, link_meta, link_has}
 use Rattle.model_store.proofs.Slots.{at_of}
 use Rattle.model_store.proofs.Thinned.{held, holding}
-use Rattle.model_store.proofs.Unlinked.{IsFree, one_contains}
+use Rattle.model_store.proofs.Unlinked.{one_contains}
 use Rattle.model_store.proofs.Wired.{opposite_refers, still_of_type}
 
 -- a model with the same objects
@@ -104,7 +103,7 @@ module _ (m : Contents) (valid : IsMetamodel m.meta) (model : IsModel m) (o : Ob
   two_contains : (h : FeatId) → contains three.meta h ≡ true → contains two.meta h ≡ true
   two_contains h c = sym (ap (λ z. contains z h) third.less.meta) ∙ c
 
-  may : holds p (slot m o f) ≡ false → MayLink three o f p
+  pub may : holds p (slot m o f) ≡ false → MayLink three o f p
   may n = record {
     has = has_three;
     reference = refers_three;
@@ -141,6 +140,11 @@ module _ (m : Contents) (valid : IsMetamodel m.meta) (model : IsModel m) (o : Ob
       }
 
 -- ## All values
+
+pub added_value : (v : Cellv) (m : Contents) → IsMetamodel m.meta → IsModel m → (o : ObjId) (f : FeatId) → HasSlot m o f → refers m.meta f ≡ true → IsOfType m f v → IsSame m (add_value o f v m)
+added_value v m valid model o f has r typed =
+    let x = object_of_type m f v r typed in
+    subst (λ w. IsSame m (add_value o f w m)) x.1 (added m valid model o f x.0 has r (subst (IsOfType m f) (sym x.1) typed))
 
 all_added : (values : List Cellv) (m : Contents) → IsMetamodel m.meta → IsModel m → (o : ObjId) (f : FeatId) → HasSlot m o f → refers m.meta f ≡ true → All (IsOfType m f) values → IsModel (add_all o f values m)
 all_added [] m valid model o f has r typed = model

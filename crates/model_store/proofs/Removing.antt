@@ -1,32 +1,24 @@
 -- References taken away: what else stays, and that what is left is wired as before.
-use Rattle.std.proofs.Common.{◌≡◌, ◌≢◌, ℕ, zero, suc, ◌+◌, ◌<◌, ◌≤◌, ◌⊎◌, inl, inr, List, [], ◌∷◌, ◌++◌, length, refl, sym, ap, ◌∙◌, subst, ⊎_elim, arith, Option, Some, None}
-use Rattle.std.specs.Prelude.{◌==◌, ◌↔◌, Bool, true, false, slice_index_or, slice_set, slice_get, option_map, is_some, if◌then◌else◌, Contains, All, IsSome, IfSome}
-use Rattle.std.specs.Option.{option_map_or, IsSomeAnd}
-use Rattle.std.proofs.lemmas.Bool.{cases_eq, cases_Bool, true≢false}
+use Rattle.std.proofs.Common.{◌≡◌, ◌≢◌, ℕ, suc, ◌≤◌, List, [], ◌∷◌, ◌++◌, length, refl, sym, ap, ◌∙◌, subst, ⊎_elim, arith, Option, Some, None}
+use Rattle.std.specs.Prelude.{Bool, true, false, slice_index_or, slice_set, option_map, is_some, if◌then◌else◌, Contains, All}
+use Rattle.std.specs.Option.{option_map_or}
+use Rattle.std.proofs.lemmas.Bool.{cases_eq, true≢false}
 use Rattle.std.proofs.lemmas.List.{get_or_default}
 use Rattle.std.proofs.lemmas.List.Kept.{AllPairs-cons}
 use Rattle.std.proofs.lemmas.Option.{none-some}
-use Rattle.atl_base.specs.declared.numbers.ClassId.{ClassId}
 use Rattle.atl_base.specs.declared.numbers.FeatId.{FeatId}
 use Rattle.atl_base.specs.declared.numbers.ObjId.{ObjId}
-use Rattle.ecore_meta.specs.declared.parts.Feature.{Feature}
-use Rattle.ecore_meta.specs.declared.parts.FeatKind.{FeatKind}
-use Rattle.ecore_meta.specs.declared.parts.FeatKind.TheVariants as Kind
-use Rattle.ecore_meta.specs.declared.parts.Parts.{Parts}
-use Rattle.ecore_meta.specs.Inheritance.{Conforms}
-use Rattle.ecore_meta.specs.Valid.{AllDiffer, IsMetamodel}
+use Rattle.ecore_meta.specs.Valid.{AllDiffer}
 use Rattle.model_store.specs.declared.parts.Cellv.{Cellv}
-use Rattle.model_store.specs.declared.parts.Cellv.TheVariants.{Words, Int, Truth, Literal, Obj}
+use Rattle.model_store.specs.declared.parts.Cellv.TheVariants.{Obj}
 use Rattle.model_store.specs.declared.parts.Object.{Object}
 use Rattle.model_store.specs.declared.refusal.StoreRefusal.{StoreRefusal}
-use Rattle.model_store.specs.Contents.{Contents, object_at, class_of, place_in, slot, slot_in, refers, refers_to, is_many, contains, opposite, container, refusal, set_slot, with_slot, without, holds, AreShaped}
+use Rattle.model_store.specs.Contents.{Contents, object_at, class_of, place_in, slot, slot_in, refers, refers_to, refusal, set_slot, with_slot, without, holds, AreShaped}
 use Rattle.model_store.specs.Writes.{cut, join}
 use Rattle.model_store.specs.declared.refusal.StoreRefusal.TheVariants.{NoObject, NoFeature}
-use Rattle.model_store.specs.Order.{IsOf}
-use Rattle.model_store.specs.Valid.{IsModel, IsConcrete, IsOfKind, IsOfType, Fits, HasSlot, Refers}
-use Rattle.model_store.proofs.Created.{some_and, all_contained, slot_of}
+use Rattle.model_store.specs.Valid.{HasSlot, Refers}
 use Rattle.model_store.proofs.Slots.{IsAt, at_of, after, after_is, elsewhere, here, refusal_kept, shaped_kept, slot_same, slot_other, same_object, same_feature}
-use Rattle.model_store.proofs.Thinned.{Contains_none, without_subset, without_not, without_kept, without_length}
+use Rattle.model_store.proofs.Thinned.{without_subset, without_not, without_kept, without_length}
 
 -- The same objects and roots, with other values in one slot.
 pub record IsChanged (m n : Contents) (x : ObjId) (h : FeatId) (cells : List Cellv) : Type 0 where

@@ -1,9 +1,8 @@
 -- In a model an object has the container that a containment refers from, so it keeps it while the containments stay.
-use Rattle.std.proofs.Common.{◌≡◌, ◌≢◌, ℕ, ◌+◌, ◌<◌, ◌≤◌, true, false, List, [], ◌∷◌, ◌++◌, length, refl, sym, ap, ◌∙◌, subst, ⊎_elim, arith, Option, Some, None, Result, Ok, Err}
-use Rattle.std.specs.Prelude.{◌↔◌, slice_index_or, option_map, Contains, if◌then◌else◌}
+use Rattle.std.proofs.Common.{◌≡◌, ◌≢◌, ◌+◌, ◌<◌, ◌≤◌, true, false, List, [], ◌∷◌, ◌++◌, length, refl, sym, ap, ◌∙◌, subst, ⊎_elim, arith, Option, Some, None, Ok, Err}
+use Rattle.std.specs.Prelude.{◌↔◌, option_map, Contains, if◌then◌else◌}
 use Rattle.std.proofs.lemmas.Bool.{cases_lt, true≢false}
-use Rattle.std.proofs.lemmas.List.{get_or_append_left, get_or_push, length_push, get_or_past}
-use Rattle.std.proofs.lemmas.Option.{none-some}
+use Rattle.std.proofs.lemmas.List.{get_or_append_left, get_or_push, length_push}
 use Rattle.atl_base.specs.declared.numbers.ClassId.{ClassId}
 use Rattle.atl_base.specs.declared.numbers.FeatId.{FeatId}
 use Rattle.atl_base.specs.declared.numbers.ObjId.{ObjId}
@@ -11,9 +10,9 @@ use Rattle.ecore_meta.specs.declared.parts.Parts.{Parts}
 use Rattle.ecore_meta.specs.Valid.{IsMetamodel}
 use Rattle.model_store.specs.declared.parts.Cellv.{Cellv}
 use Rattle.model_store.specs.declared.parts.Cellv.TheVariants.{Obj}
-use Rattle.model_store.specs.Contents.{Contents, object_at, contains, refers, slot, set_slot, is_many, holder}
+use Rattle.model_store.specs.Contents.{Contents, contains, refers, slot, set_slot, holder}
 use Rattle.model_store.specs.HolderTables.{AreHolders}
-use Rattle.model_store.specs.Valid.{IsConcrete, IsModel, IsValid, Fits, HasSlot, Refers}
+use Rattle.model_store.specs.Valid.{IsConcrete, IsValid, Fits, HasSlot, Refers}
 use Rattle.model_store.specs.declared.refusal.StoreRefusal.{StoreRefusal}
 use Rattle.model_store.specs.declared.refusal.StoreRefusal.TheVariants.{NoObject, NoFeature, BadType, Full, Memory}
 use Rattle.model_store.specs.Writes.{created, fresh, write, written, rewired, Creates, Writes}
@@ -28,10 +27,10 @@ use Rattle.model_store.proofs.Slots.{at_of, after_is, slot_other}
 use Rattle.model_store.proofs.Updates.{found_within}
 
 module _ (m : Contents) (valid : IsValid m) where
-  by_holder : (p r : ObjId) (h : FeatId) → holder m p ≡ Some (r, h) → (contains m.meta h ≡ true) × Refers m r h p
+  pub by_holder : (p r : ObjId) (h : FeatId) → holder m p ≡ Some (r, h) → (contains m.meta h ≡ true) × Refers m r h p
   by_holder p r h e = holder_refers m (seen_once m.meta valid.metamodel) valid.model.shaped p r h e
 
-  holder_is : (p r : ObjId) (h : FeatId) → contains m.meta h ≡ true → Refers m r h p → holder m p ≡ Some (r, h)
+  pub holder_is : (p r : ObjId) (h : FeatId) → contains m.meta h ≡ true → Refers m r h p → holder m p ≡ Some (r, h)
   holder_is p r h c x = on (holder m p) refl
     where
       on : (y : Option (ObjId × FeatId)) → holder m p ≡ y → holder m p ≡ Some (r, h)

@@ -1,11 +1,11 @@
 -- Slots after other values were put into one of them.
-use Rattle.std.proofs.Common.{◌≡◌, ◌≢◌, ℕ, ◌<◌, List, [], length, refl, sym, ap, ◌∙◌, subst, ⊎_elim, arith, Option, Some, None}
-use Rattle.std.specs.Prelude.{◌==◌, Bool, true, false, slice_index_or, slice_set, position, option_map, is_some, if◌then◌else◌}
+use Rattle.std.proofs.Common.{◌≡◌, ◌≢◌, ℕ, ◌<◌, List, [], length, refl, sym, ap, ◌∙◌, ⊎_elim, arith, Option, Some, None}
+use Rattle.std.specs.Prelude.{◌==◌, slice_index_or, slice_set, is_some, if◌then◌else◌}
 use Rattle.std.specs.Option.{option_map_or}
-use Rattle.std.proofs.lemmas.Bool.{cases_eq, eqb-true, true≢false}
+use Rattle.std.proofs.lemmas.Bool.{cases_eq, eqb-true}
 use Rattle.std.proofs.lemmas.List.{get_or-set_same, get_or-set_other}
 use Rattle.std.proofs.lemmas.List.Quantifiers.{position-Some}
-use Rattle.std.proofs.lemmas.Option.{none-some, same_Some}
+use Rattle.std.proofs.lemmas.Option.{none-some}
 use Rattle.atl_base.specs.declared.numbers.ClassId.{ClassId}
 use Rattle.atl_base.specs.declared.numbers.FeatId.{FeatId}
 use Rattle.atl_base.specs.declared.numbers.ObjId.{ObjId}
@@ -13,11 +13,10 @@ use Rattle.ecore_meta.specs.declared.parts.Parts.{Parts}
 use Rattle.ecore_meta.specs.Inheritance.{features}
 use Rattle.model_store.specs.declared.parts.Cellv.{Cellv}
 use Rattle.model_store.specs.declared.parts.Object.{Object}
-use Rattle.model_store.specs.declared.refusal.StoreRefusal.{StoreRefusal}
 use Rattle.model_store.specs.declared.refusal.StoreRefusal.TheVariants.{NoObject, NoFeature}
-use Rattle.model_store.specs.Contents.{Contents, object_at, class_of, place_in, slot_in, slot, with_slot, set_slot, refusal, IsShaped, AreShaped, HasPlace}
+use Rattle.model_store.specs.Contents.{Contents, object_at, place_in, slot_in, slot, with_slot, set_slot, refusal, AreShaped, HasPlace}
 use Rattle.model_store.specs.Valid.{HasSlot}
-use Rattle.model_store.proofs.Updates.{found_within, changed, set_slot_is, shaped_change}
+use Rattle.model_store.proofs.Updates.{found_within, set_slot_is, shaped_change}
 
 pub same_object : (o p : ObjId) → o.0 ≡ p.0 → o ≡ p
 same_object o p e = ap (λ n. record { 0 = n }) e

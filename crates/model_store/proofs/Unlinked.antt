@@ -1,10 +1,10 @@
 -- A pair taken away leaves a model.
-use Rattle.std.proofs.Common.{◌≡◌, ◌≢◌, ℕ, ◌<◌, ◌⊎◌, inl, inr, List, [], ◌∷◌, length, refl, sym, ap, ◌∙◌, subst, ⊎_elim, arith, Option, Some, None}
-use Rattle.std.specs.Prelude.{◌==◌, ◌↔◌, ◌&&◌, Bool, true, false, nat_lt, slice_get, option_map, is_some, if◌then◌else◌, Contains, IsSome}
+use Rattle.std.proofs.Common.{◌≡◌, ◌≢◌, ℕ, inl, inr, List, refl, sym, ap, ◌∙◌, subst, ⊎_elim, Option, Some, None}
+use Rattle.std.specs.Prelude.{◌&&◌, Bool, true, false, nat_lt, slice_get, is_some, if◌then◌else◌, Contains, IsSome}
 use Rattle.std.specs.Option.{option_map_or}
 use Rattle.std.specs.List.{position_or_len}
-use Rattle.std.proofs.lemmas.Bool.{cases_Bool, cases_eq, true≢false}
-use Rattle.std.proofs.lemmas.Option.{none-some, same_Some}
+use Rattle.std.proofs.lemmas.Bool.{cases_eq, true≢false}
+use Rattle.std.proofs.lemmas.Option.{none-some}
 use Rattle.atl_base.specs.declared.numbers.FeatId.{FeatId}
 use Rattle.atl_base.specs.declared.numbers.ObjId.{ObjId}
 use Rattle.ecore_meta.specs.declared.parts.Feature.{Feature}
@@ -12,16 +12,16 @@ use Rattle.ecore_meta.specs.declared.parts.Parts.{Parts}
 use Rattle.ecore_meta.specs.Valid.{AllDiffer, IsMetamodel, opposite_of, is_containment}
 use Rattle.model_store.specs.declared.parts.Cellv.TheVariants.{Obj}
 use Rattle.model_store.specs.declared.parts.Object.{Object}
-use Rattle.model_store.specs.Contents.{Contents, object_at, slot, refers, contains, opposite, is_contained_by, container, AreShaped}
+use Rattle.model_store.specs.Contents.{Contents, object_at, refers, contains, opposite, is_contained_by, AreShaped}
 use Rattle.model_store.specs.Valid.{IsModel, Refers}
 use Rattle.model_store.specs.Writes.{cut, cut_back, free_ends, unlink, freed, with_root}
 use Rattle.model_store.proofs.Created.{referred_to}
 use Rattle.model_store.proofs.CreatedModel.{seen_once}
 use Rattle.model_store.proofs.Holding.{contained_not, uncontained}
 use Rattle.model_store.proofs.ListedRoots.{inserted, inserted_new, inserted_old, inserted_differ}
-use Rattle.model_store.proofs.Removing.{IsWithout, IsThis, cut_changes, cut_without}
+use Rattle.model_store.proofs.Removing.{IsWithout, cut_changes, cut_without}
 use Rattle.model_store.proofs.Slots.{same_object}
-use Rattle.model_store.proofs.Wired.{IsWired, wired, wired_without, still_of_type, GoInPairs, IsEnd, ends_go_in_pairs, ends_without, opposite_back, opposite_refers}
+use Rattle.model_store.proofs.Wired.{IsWired, wired, wired_without, still_of_type, IsEnd, ends_go_in_pairs, ends_without}
 
 -- an object that no containment holds
 pub record IsFree (m : Contents) (p : ObjId) : Type 0 where

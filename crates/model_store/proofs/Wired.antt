@@ -1,11 +1,9 @@
 -- Models but for their roots: what is wired stays so where references go in pairs.
-use Rattle.std.proofs.Common.{◌≡◌, ◌≢◌, ℕ, zero, suc, ◌+◌, ◌<◌, ◌≤◌, ◌⊎◌, inl, inr, List, [], ◌∷◌, ◌++◌, length, refl, sym, ap, ◌∙◌, subst, ⊎_elim, arith, Option, Some, None}
-use Rattle.std.specs.Prelude.{◌==◌, Bool, true, false, slice_index_or, slice_get, option_map, is_some, if◌then◌else◌, Contains, All, IsSome, IfSome}
+use Rattle.std.proofs.Common.{◌≡◌, ◌≢◌, ◌<◌, ◌⊎◌, inl, inr, List, [], length, refl, sym, ap, ◌∙◌, subst, ⊎_elim, arith, Option, Some, None}
+use Rattle.std.specs.Prelude.{true, false, slice_index_or, slice_get, IsSome, IfSome}
 use Rattle.std.specs.Option.{option_map_or, IsSomeAnd}
-use Rattle.std.proofs.lemmas.Bool.{true≢false}
 use Rattle.std.proofs.lemmas.List.{get_or_default}
 use Rattle.std.proofs.lemmas.Option.{none-some, same_Some, get_or_from_slice_get, slice_get_within, slice_get-get_or}
-use Rattle.atl_base.specs.declared.numbers.ClassId.{ClassId}
 use Rattle.atl_base.specs.declared.numbers.FeatId.{FeatId}
 use Rattle.atl_base.specs.declared.numbers.ObjId.{ObjId}
 use Rattle.ecore_meta.specs.declared.parts.Feature.{Feature}
@@ -17,8 +15,7 @@ use Rattle.ecore_meta.specs.Valid.{AllDiffer, IsMetamodel, IsKindWithin, AreOppo
 use Rattle.model_store.specs.declared.parts.Cellv.{Cellv}
 use Rattle.model_store.specs.declared.parts.Cellv.TheVariants.{Words, Int, Truth, Literal, Obj}
 use Rattle.model_store.specs.declared.parts.Object.{Object}
-use Rattle.model_store.specs.Contents.{Contents, object_at, class_of, slot, refers, is_many, contains, opposite, refusal, AreShaped}
-use Rattle.model_store.specs.Order.{IsOf}
+use Rattle.model_store.specs.Contents.{Contents, class_of, slot, refers, is_many, contains, opposite, AreShaped}
 use Rattle.model_store.specs.Valid.{IsModel, IsConcrete, IsOfKind, IsOfType, Fits, HasSlot, Refers}
 use Rattle.model_store.specs.Writes.{cut, cut_back}
 use Rattle.model_store.proofs.Created.{some_and, all_contained}

@@ -1,4 +1,5 @@
 pub mod Contents
+pub mod Drafts
 pub mod Folds
 pub mod HolderTables
 pub mod Laws

@@ -7,8 +7,9 @@ ghost use Rattle.ecore_meta.specs.Valid.{IsTextOf, IsIntText};
 ghost use Rattle.model_store.specs.Writes.{same_value, with_value, appended, written, initial, value_of_text, literal_number, literal_of, fresh};
 
 use crate::copies::{copy_slot, copy_value};
+use crate::held::Held;
 use crate::lookups::{feature, is_many, is_reference, is_unique};
-use crate::parts::{Cellv, Object, Slot};
+use crate::parts::{Cellv, Slot};
 use atl_base::numbers::{ClassId, FeatId};
 use atl_base::text::Text;
 use ecore_meta::metamodel::Metamodel;
@@ -150,7 +151,7 @@ fn initial(alloc: Global, meta: &Metamodel, f: FeatId) -> Result<Slot, AllocErro
 }
 
 // An object that nothing was written to.
-pub(crate) fn fresh(alloc: Global, meta: &Metamodel, class: ClassId) -> Result<Object, AllocError>
+pub(crate) fn fresh(alloc: Global, meta: &Metamodel, class: ClassId) -> Result<Held, AllocError>
     requires { class.0 < length meta.now.classes }
     ensures { IfOk result (λ object. object ≡ fresh meta.now class) }
 {
@@ -159,10 +160,7 @@ pub(crate) fn fresh(alloc: Global, meta: &Metamodel, class: ClassId) -> Result<O
     for f in features {
         slots.push(initial(alloc, meta, *f)?)?;
     }
-    Ok(Object {
-        class,
-        slots: Items::from_vec(slots),
-    })
+    Ok(Held::new(class, slots))
 }
 
 // What a slot of an attribute holds after a write.

@@ -4,8 +4,9 @@ ghost use Rattle.model_store.specs.declared.parts.Object.{Object};
 ghost use Rattle.model_store.specs.Contents.{contains, holds, holding_in, holding_place, refers_to, IsShaped};
 ghost use Rattle.model_store.specs.HolderTables.{or_else, pair_with};
 
+use crate::held::Held;
 use crate::lookups::contains;
-use crate::parts::{Cellv, Object};
+use crate::parts::Cellv;
 use atl_base::numbers::{FeatId, ObjId};
 use ecore_meta::metamodel::Metamodel;
 
@@ -49,13 +50,13 @@ fn note_feature(
 }
 
 // The same of each feature of an object.
-fn note_object(holders: &mut [Option<(ObjId, FeatId)>], meta: &Metamodel, o: ObjId, object: &Object)
+fn note_object(holders: &mut [Option<(ObjId, FeatId)>], meta: &Metamodel, o: ObjId, object: &Held)
     requires { IsShaped meta.now object.now }
     ensures { (k : ℕ) → k < length holders.old → slice_index_or holders.new k None
         ≡ or_else (slice_index_or holders.old k None) (option_map (pair_with o) (holding_in meta.now (record { 0 = k }) object.now)) }
 {
-    let features = meta.features_seen(object.class);
-    let slots = object.slots.as_slice();
+    let features = meta.features_seen(object.class());
+    let slots = object.slots();
     for at in 0..features.len() {
         note_feature(holders, meta, o, features[at], slots[at].as_slice());
     }
@@ -66,7 +67,7 @@ pub(crate) fn note_place(
     holders: &mut [Option<(ObjId, FeatId)>],
     meta: &Metamodel,
     o: ObjId,
-    place: &Option<Object>,
+    place: &Option<Held>,
 )
     requires { (object : Object) → place.now ≡ Some object → IsShaped meta.now object }
     ensures { (k : ℕ) → k < length holders.old → slice_index_or holders.new k None

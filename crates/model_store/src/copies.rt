@@ -1,9 +1,9 @@
 // Copies of what a model is made of.
-ghost use Rattle.std.specs.Prelude.{◌≡◌, ◌++◌, ◌∷◌, [], IfOk};
+ghost use Rattle.std.specs.Prelude.{◌≡◌, IfOk};
 ghost use Rattle.model_store.specs.Contents.{without};
-ghost use Rattle.model_store.specs.declared.parts.Cellv.TheVariants.{Obj};
 
-use crate::parts::{Cellv, Object, Slot};
+use crate::held::Held;
+use crate::parts::{Cellv, Slot};
 use atl_base::numbers::ObjId;
 use sqlite_items::Items;
 use std::alloc::{AllocError, Global};
@@ -32,26 +32,12 @@ pub(crate) fn copy_slot(alloc: Global, cells: &[Cellv]) -> Result<Slot, AllocErr
     Ok(Items::from_vec(slot))
 }
 
-// The same object again.
-pub(crate) fn copy_object(alloc: Global, object: &Object) -> Result<Object, AllocError>
-    ensures { IfOk result (λ copy. copy ≡ object.now) }
-{
-    let mut slots = Vec::with_capacity(alloc, object.slots.len())?;
-    for slot in object.slots.as_slice() {
-        slots.push(copy_slot(alloc, slot.as_slice())?)?;
-    }
-    Ok(Object {
-        class: object.class,
-        slots: Items::from_vec(slots),
-    })
-}
-
 // What stands at an object's number, again.
-fn copy_place(alloc: Global, place: &Option<Object>) -> Result<Option<Object>, AllocError>
+fn copy_place(alloc: Global, place: &Option<Held>) -> Result<Option<Held>, AllocError>
     ensures { IfOk result (λ copy. copy ≡ place.now) }
 {
     match place {
-        Some(object) => Ok(Some(copy_object(alloc, object)?)),
+        Some(object) => Ok(Some(object.copy(alloc)?)),
         None => Ok(None),
     }
 }
@@ -59,8 +45,8 @@ fn copy_place(alloc: Global, place: &Option<Object>) -> Result<Option<Object>, A
 // The same objects again.
 pub(crate) fn copy_objects(
     alloc: Global,
-    objects: &[Option<Object>],
-) -> Result<Vec<Option<Object>>, AllocError>
+    objects: &[Option<Held>],
+) -> Result<Vec<Option<Held>>, AllocError>
     ensures { IfOk result (λ copy. copy.items ≡ objects.now) }
 {
     let mut copy = Vec::with_capacity(alloc, objects.len())?;
@@ -80,14 +66,5 @@ pub(crate) fn without(alloc: Global, p: ObjId, cells: &[Cellv]) -> Result<Slot, 
             slot.push(copy_value(alloc, cell)?)?;
         }
     }
-    Ok(slot)
-}
-
-// The values of a slot and an object after them.
-pub(crate) fn with_object(alloc: Global, p: ObjId, cells: &[Cellv]) -> Result<Slot, AllocError>
-    ensures { IfOk result (λ slot. slot ≡ cells.now ++ Obj p ∷ []) }
-{
-    let mut slot = copy_slot(alloc, cells)?;
-    slot.push(Cellv::Obj(p))?;
     Ok(slot)
 }

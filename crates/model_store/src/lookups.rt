@@ -1,11 +1,10 @@
 // What the metamodel says of a feature, and what a slot holds.
-ghost use Rattle.std.specs.Prelude.{◌≡◌, ◌<◌, IfSome, slice_get, length, Some, false, if◌then◌else◌};
+ghost use Rattle.std.specs.Prelude.{◌≡◌, ◌<◌, IfSome, slice_get, length, false};
 ghost use Rattle.std.specs.Option.{option_copied};
 ghost use Rattle.ecore_meta.specs.Valid.{IsKindWithin, IsTextOf, is_reference};
-ghost use Rattle.model_store.specs.declared.parts.Object.{Object};
-ghost use Rattle.model_store.specs.Contents.{contains, is_contained_by, is_many, is_unique, refers, opposite, place_in, holds, first_object, holding_in, holding_place, IsShaped};
+ghost use Rattle.model_store.specs.Contents.{contains, is_contained_by, is_many, is_unique, refers, opposite, place_in, holds, first_object};
 
-use crate::parts::{Cellv, Object};
+use crate::parts::Cellv;
 use atl_base::numbers::{ClassId, FeatId, ObjId};
 use ecore_meta::metamodel::Metamodel;
 use ecore_meta::parts::{FeatKind, Feature};
@@ -118,37 +117,4 @@ pub(crate) fn first_object(cells: &[Cellv]) -> Option<ObjId>
         }
     }
     None
-}
-
-// Whether the slot of a feature contains an object.
-fn holds_inside(meta: &Metamodel, f: FeatId, cells: &[Cellv], p: ObjId) -> bool
-    ensures { result ≡ (if contains meta.now f then holds p cells.now else false) }
-{
-    contains(meta, f) && holds(cells, p)
-}
-
-// The containment feature by which an object contains another.
-pub(crate) fn holding_in(meta: &Metamodel, p: ObjId, object: &Object) -> Option<FeatId>
-    requires { IsShaped meta.now object.now }
-    ensures { result ≡ holding_in meta.now p object.now }
-{
-    let features = meta.features_seen(object.class);
-    let slots = object.slots.as_slice();
-    for at in 0..features.len() {
-        if holds_inside(meta, features[at], slots[at].as_slice(), p) {
-            return Some(features[at]);
-        }
-    }
-    None
-}
-
-// The same, where there is an object.
-pub(crate) fn holding_place(meta: &Metamodel, p: ObjId, place: &Option<Object>) -> Option<FeatId>
-    requires { (object : Object) → place.now ≡ Some object → IsShaped meta.now object }
-    ensures { result ≡ holding_place meta.now p place.now }
-{
-    match place {
-        Some(object) => holding_in(meta, p, object),
-        None => None,
-    }
 }

@@ -1,15 +1,16 @@
 // Models: the type whose values are always models, and its calls.
-ghost use Rattle.std.specs.Prelude.{◌≡◌, ◌≤◌, ◌<◌, ◌^◌, IfOk, IfSome, MatchResult, [], length, Some, None, map};
+ghost use Rattle.std.specs.Prelude.{◌≡◌, ◌≤◌, ◌<◌, ◌^◌, IfOk, IfSome, OnOk, OnErr, MatchResult, [], length, Some, None, true, false, map};
 ghost use Rattle.ecore_meta.specs.Valid.{IsMetamodel};
-ghost use Rattle.model_store.specs.Contents.{class_of, container, holder, refusal, slot};
+ghost use Rattle.model_store.specs.Contents.{class_of, container, holder, refers, refusal, slot};
 ghost use Rattle.model_store.specs.Folds.{empty};
 ghost use Rattle.model_store.specs.Order.{preorder, HasNoCycle, IsExtent};
 ghost use Rattle.model_store.specs.Paths.{object_of_path};
-ghost use Rattle.model_store.specs.Valid.{IsConcrete, IsModel};
-ghost use Rattle.model_store.specs.Writes.{Creates, Writes};
+ghost use Rattle.model_store.specs.Valid.{Fits, HasSlot, IsConcrete, IsModel};
+ghost use Rattle.model_store.specs.Writes.{write, Creates, Writes};
 
+use crate::adding::{Rewired, write_reference};
 use crate::lookups::refers;
-use crate::parts::{Object, Slot};
+use crate::parts::{Cellv, Object, Slot};
 use crate::refusal::StoreRefusal;
 use crate::store::Store;
 use atl_base::numbers::{ClassId, FeatId, ObjId};
@@ -154,10 +155,50 @@ impl Model {
     pub fn write(&mut self, o: ObjId, f: FeatId, values: &Slot) -> Result<(), StoreRefusal>
         ensures { Writes self.old o f values.now result self.new }
     {
-        self.store.write(o, f, values)?;
-        if refers(self.store.meta(), f) {
-            self.store.note_holders(&mut self.holders);
+        let values = values.as_slice();
+        if let Err(refused) = self.store.may_write(o, f, values) {
+            return Err(refused);
         }
+        if refers(self.store.meta(), f) {
+            self.rewire(o, f, values)?;
+        } else {
+            self.assign(o, f, values)?;
+        }
+        Ok(())
+    }
+
+    // Writes to an attribute.
+    fn assign(&mut self, o: ObjId, f: FeatId, values: &[Cellv]) -> Result<(), AllocError>
+        requires there { HasSlot self.old o f }
+        requires attribute { refers self.old.meta f ≡ false }
+        requires fits { Fits self.old f values.now }
+        ensures ok { OnOk result (self.new ≡ write self.old o f values.now) }
+        ensures err { OnErr result (self.new ≡ self.old) }
+    {
+        self.store.assign(o, f, values)?;
+        Ok(())
+    }
+
+    // Writes to a reference.
+    fn rewire(&mut self, o: ObjId, f: FeatId, values: &[Cellv]) -> Result<(), AllocError>
+        requires there { HasSlot self.old o f }
+        requires reference { refers self.old.meta f ≡ true }
+        requires fits { Fits self.old f values.now }
+        ensures ok { OnOk result (self.new ≡ write self.old o f values.now) }
+        ensures err { OnErr result (self.new ≡ self.old) }
+    {
+        let alloc = self.store.alloc();
+        let none = Store::new(alloc, self.store.meta().clone()?)?;
+        let store = std::mem::replace(&mut self.store, none);
+        let holders = std::mem::replace(&mut self.holders, Vec::new(alloc));
+        let Rewired {
+            store,
+            holders,
+            done,
+        } = write_reference(store, holders, o, f, values);
+        self.store = store;
+        self.holders = holders;
+        done?;
         Ok(())
     }
 

@@ -3,8 +3,9 @@ ghost use Rattle.std.specs.Prelude.{◌≡◌, ◌++◌, ◌∷◌, ◌<◌, [],
 ghost use Rattle.model_store.specs.Contents.{Contents, IsShaped, contains, objects_of};
 ghost use Rattle.model_store.specs.Order.{contents, contents_of, preorder, HasNoCycle, IsTreeLaw, IsExtent};
 
+use crate::held::Held;
 use crate::lookups::contains;
-use crate::parts::{Cellv, Object};
+use crate::parts::Cellv;
 use crate::store::Store;
 use crate::types::is_of;
 use atl_base::numbers::{ClassId, FeatId, ObjId};
@@ -39,12 +40,12 @@ fn push_contents(
 }
 
 // The contents of an object.
-fn contents_of(alloc: Global, meta: &Metamodel, object: &Object) -> Result<Vec<ObjId>, AllocError>
+fn contents_of(alloc: Global, meta: &Metamodel, object: &Held) -> Result<Vec<ObjId>, AllocError>
     requires { IsShaped meta.now object.now }
     ensures { IfOk result (λ list. list.items ≡ contents_of meta.now object.now) }
 {
-    let features = meta.features_seen(object.class);
-    let slots = object.slots.as_slice();
+    let features = meta.features_seen(object.class());
+    let slots = object.slots();
     let mut list = Vec::new(alloc);
     for at in 0..features.len() {
         push_contents(&mut list, meta, features[at], slots[at].as_slice())?;

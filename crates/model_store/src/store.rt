@@ -1,24 +1,27 @@
 // The objects, slots and roots of a model. A store need not be a model: a write takes it through states in which the two ends of a
 // pair disagree. `model.rt` has the type that is always one.
-ghost use Rattle.std.specs.Prelude.{◌≡◌, ◌≤◌, ◌<◌, ◌⊎◌, ◌++◌, ◌∷◌, IfOk, OnOk, IfSome, MatchResult, [], length, Some, None, option_map, is_ok, if◌then◌else◌, map};
+ghost use Rattle.std.specs.Prelude.{◌≡◌, ◌≤◌, ◌<◌, ◌⊎◌, ◌++◌, ◌-◌, ◌∷◌, IfOk, OnOk, OnErr, IfSome, MatchResult, [], length, take, slice_index_or, Some, None, Err, false, option_map, is_ok, if◌then◌else◌, map};
 ghost use Rattle.std.specs.Option.{option_copied, option_map_or};
 ghost use Rattle.model_store.specs.declared.parts.Object.{Object};
-ghost use Rattle.model_store.specs.Valid.{IsConcrete, IsModel};
-ghost use Rattle.model_store.specs.Writes.{freed, taken_in, rewired, Creates, Writes};
-ghost use Rattle.model_store.specs.Contents.{object_count, object_at, class_of, slot, with_slot, set_slot, refusal, holder, place_in, HasPlace, IsShaped};
+ghost use Rattle.model_store.specs.declared.parts.Cellv.TheVariants.{Obj};
+ghost use Rattle.model_store.specs.Drafts.{settled};
+ghost use Rattle.model_store.specs.Valid.{Fits, IsConcrete, IsModel};
+ghost use Rattle.model_store.specs.Writes.{write, Creates, Writes};
+ghost use Rattle.model_store.specs.Contents.{object_count, object_at, class_of, slot, with_slot, set_slot, refusal, refers, place_in, HasPlace, IsShaped};
 ghost use Rattle.model_store.specs.HolderTables.{AreHolders};
 
-use crate::adding::rewire;
 use crate::attributes::{fresh, written};
 use crate::containing::{clear, note_place};
 use crate::copies::copy_objects;
-use crate::lookups::{holding_place, place_in, refers};
+use crate::held::Held;
+use crate::lookups::place_in;
 use crate::parts::{Cellv, Object, Slot};
 use crate::refusal::StoreRefusal;
-use crate::roots::{insert_root, remove_root};
+use crate::roots::{RootStep, settle};
 use crate::types::fits;
 use atl_base::numbers::{ClassId, FeatId, ObjId};
 use ecore_meta::metamodel::Metamodel;
+use sqlite_items::Items;
 use std::alloc::{AllocError, Global};
 use std::rc::Rc;
 
@@ -28,7 +31,7 @@ pub(crate) struct Store {
     alloc: Global,
     meta: Rc<Metamodel>,
     // at each number the object, or none where it is gone
-    objects: Vec<Option<Object>>,
+    objects: Vec<Option<Held>>,
     // how many objects there are
     count: usize,
     roots: Vec<ObjId>,
@@ -46,31 +49,36 @@ impl std::marker::Model for Store {
         × AreShaped m.meta.value m.objects.items };
 }
 
-// Other values in the slot at this place.
-fn set_cells(place: &mut Option<Object>, at: usize, cells: Slot)
+// Other values in the slot at this place, and what it held.
+fn exchange_at(place: &mut Option<Held>, at: usize, cells: Slot) -> Slot
     requires { (object : Object) → place.old ≡ Some object → at < length object.slots }
-    ensures { place.new ≡ option_map (λ object. with_slot object at cells) place.old }
+    ensures new { place.new ≡ option_map (λ object. with_slot object at cells) place.old }
+    ensures old { (object : Object) → place.old ≡ Some object → result ≡ slice_index_or object.slots at [] }
 {
-    if let Some(object) = place {
-        object.slots.set(at, cells);
+    match place {
+        Some(object) => object.exchange(at, cells),
+        None => cells,
     }
 }
 
 // Objects at their places.
-fn placed(alloc: Global, objects: Vec<Object>) -> Result<Vec<Option<Object>>, AllocError>
+#[tactic(auto, using(crate::proofs::Exchanges::placed_more))]
+fn placed(alloc: Global, mut objects: Vec<Object>) -> Result<Vec<Option<Held>>, AllocError>
     ensures { IfOk result (λ places. places.items ≡ map Some objects.items) }
 {
-    objects
-        .into_iter()
-        .map(|object| Some(object))
-        .collect(alloc)
+    let mut places = Vec::with_capacity(alloc, objects.len())?;
+    'back: while let Some(object) = objects.pop() {
+        places.push(Some(Held::of(alloc, object)?))?;
+    }
+    places.reverse();
+    Ok(places)
 }
 
 // An object more, which is a root.
 fn push_root(
-    objects: &mut Vec<Option<Object>>,
+    objects: &mut Vec<Option<Held>>,
     roots: &mut Vec<ObjId>,
-    object: Object,
+    object: Held,
     o: ObjId,
 ) -> Result<(), AllocError>
     ensures objects { objects.new.items ≡ (if is_ok result then objects.old.items ++ Some object ∷ [] else objects.old.items) }
@@ -160,7 +168,7 @@ impl Store {
     }
 
     // The object of a number.
-    pub(crate) fn object(&self, o: ObjId) -> Option<&Object>
+    pub(crate) fn object(&self, o: ObjId) -> Option<&Held>
         ensures object { option_copied result ≡ object_at self.now.objects o }
         ensures shaped { IfSome result (λ object. IsShaped self.now.meta object.now) }
     {
@@ -172,7 +180,7 @@ impl Store {
         ensures class { result ≡ class_of self.now o }
         ensures within { IfSome result (λ c. c.0 < length self.now.meta.classes) }
     {
-        Some(self.object(o)?.class)
+        Some(self.object(o)?.class())
     }
 
     // The values of a feature of an object.
@@ -183,22 +191,10 @@ impl Store {
         let Some(object) = self.object(o) else {
             return Err(StoreRefusal::NoObject);
         };
-        match place_in(&self.meta, object.class, f) {
-            Some(at) => Ok(&object.slots.as_slice()[at]),
+        match place_in(&self.meta, object.class(), f) {
+            Some(at) => Ok(&object.slots()[at]),
             None => Err(StoreRefusal::NoFeature),
         }
-    }
-
-    // Where an object is contained: the container and its feature.
-    pub(crate) fn holder(&self, p: ObjId) -> Option<(ObjId, FeatId)>
-        ensures { result ≡ holder self.now p }
-    {
-        for at in 0..self.objects.len() {
-            if let Some(f) = holding_place(&self.meta, p, &self.objects[at]) {
-                return Some((ObjId(at as u32), f));
-            }
-        }
-        None
     }
 
     // Where each object is contained, into a table with a place for each.
@@ -218,7 +214,7 @@ impl Store {
         ensures within { IfSome result (λ at. HasPlace self.now.meta self.now.objects o at) }
     {
         let object = self.object(o)?;
-        place_in(&self.meta, object.class, f)
+        place_in(&self.meta, object.class(), f)
     }
 
     // The values of a feature of an object, and none where there is no such slot.
@@ -231,28 +227,46 @@ impl Store {
         }
     }
 
-    // Other values in a slot, where there is one.
-    pub(crate) fn put(&mut self, o: ObjId, f: FeatId, cells: Slot)
-        ensures { self.new ≡ set_slot self.old o f cells }
+    // Other values in a slot, where there is one, and what it held.
+    pub(crate) fn exchange(&mut self, o: ObjId, f: FeatId, cells: Slot) -> Slot
+        ensures new { self.new ≡ set_slot self.old o f cells }
+        ensures old { result ≡ slot self.old o f }
     {
         let Some(at) = self.place(o, f) else {
-            return;
+            return Items::new(self.alloc);
         };
-        set_cells(&mut self.objects[o.0 as usize], at, cells);
+        exchange_at(&mut self.objects[o.0 as usize], at, cells)
     }
 
-    // An object that has no container any more becomes a root.
-    pub(crate) fn free(&mut self, o: ObjId) -> Result<(), AllocError>
-        ensures { OnOk result (self.new ≡ freed o self.old) }
+    // An object more in a slot.
+    #[tactic(auto, using(crate::proofs::Exchanges::set_twice, crate::proofs::Exchanges::set_back))]
+    pub(crate) fn append(&mut self, o: ObjId, f: FeatId, q: ObjId) -> Result<(), AllocError>
+        ensures ok { OnOk result (self.new ≡ set_slot self.old o f (slot self.old o f ++ Obj q ∷ [])) }
+        ensures err { OnErr result (self.new ≡ self.old) }
     {
-        insert_root(&mut self.roots, o)
+        let mut cells = self.exchange(o, f, Items::new(self.alloc()));
+        let pushed = cells.push(Cellv::Obj(q));
+        let _ = self.exchange(o, f, cells);
+        pushed?;
+        Ok(())
     }
 
-    // An object that has a container is no root.
-    pub(crate) fn take_in(&mut self, o: ObjId)
-        ensures { self.new ≡ taken_in o self.old }
+    // The last value less in a slot.
+    #[tactic(auto, using(crate::proofs::Exchanges::set_twice))]
+    pub(crate) fn drop_last(&mut self, o: ObjId, f: FeatId)
+        ensures { self.new ≡ set_slot self.old o f (take (length (slot self.old o f) - 1) (slot self.old o f)) }
     {
-        remove_root(&mut self.roots, o);
+        let mut cells = self.exchange(o, f, Items::new(self.alloc()));
+        let _ = cells.pop();
+        let _ = self.exchange(o, f, cells);
+    }
+
+    // The roots after all steps, or as they were.
+    pub(crate) fn settle(&mut self, steps: &[RootStep]) -> Result<(), AllocError>
+        ensures ok { OnOk result (self.new ≡ record self.old { roots = settled steps.now self.old.roots }) }
+        ensures err { OnErr result (self.new ≡ self.old) }
+    {
+        settle(&mut self.roots, steps)
     }
 
     // What the objects are made with.
@@ -273,39 +287,32 @@ impl Store {
         })
     }
 
-    // Writes to a feature of an object: a single-valued one takes the only value, and is reset by none; a many-valued one
-    // appends the values in their order, and skips those that it has where it is unique. A containment cycle may arise.
-    pub(crate) fn write(&mut self, o: ObjId, f: FeatId, values: &Slot) -> Result<(), StoreRefusal>
-        ensures { Writes self.old o f values.now result self.new }
+    // Whether values may be written to a feature of an object.
+    pub(crate) fn may_write(
+        &self,
+        o: ObjId,
+        f: FeatId,
+        values: &[Cellv],
+    ) -> Result<(), StoreRefusal>
+        ensures { MatchResult result (λ _. (refusal self.now o f ≡ None) × Fits self.now f values.now) (λ e. Writes self.now o f values.now (Err e) self.now) }
     {
         if let Err(refused) = self.get(o, f) {
             return Err(refused);
         }
-        if !fits(self, f, values.as_slice()) {
+        if !fits(self, f, values) {
             return Err(StoreRefusal::BadType);
         }
-        if refers(&self.meta, f) {
-            let next = self.rewired(o, f, values.as_slice())?;
-            *self = next;
-            return Ok(());
-        }
-        let cells = written(
-            self.alloc,
-            &self.meta,
-            f,
-            self.cells(o, f),
-            values.as_slice(),
-        )?;
-        self.put(o, f, cells);
         Ok(())
     }
 
-    // The model after a write to a reference.
-    fn rewired(&self, o: ObjId, f: FeatId, values: &[Cellv]) -> Result<Store, AllocError>
-        ensures { IfOk result (λ model. model ≡ rewired o f values.now self.now) }
+    // Writes to an attribute.
+    pub(crate) fn assign(&mut self, o: ObjId, f: FeatId, values: &[Cellv]) -> Result<(), AllocError>
+        requires { refers self.old.meta f ≡ false }
+        ensures ok { OnOk result (self.new ≡ write self.old o f values.now) }
+        ensures err { OnErr result (self.new ≡ self.old) }
     {
-        let mut next = self.copy()?;
-        rewire(&mut next, o, f, values)?;
-        Ok(next)
+        let cells = written(self.alloc, &self.meta, f, self.cells(o, f), values)?;
+        let _ = self.exchange(o, f, cells);
+        Ok(())
     }
 }

@@ -1,4 +1,4 @@
-use Rattle.std.proofs.Common.{◌≡◌, length, sym, ap, ◌∙◌, lit<}
+use Rattle.std.proofs.Common.{sym, ap, ◌∙◌, lit<}
 use Rattle.std.specs.Option.{option_and_then}
 use Rattle.model_store.specs.Paths.{content_feature, single_content}
 use Rattle.model_store.proofs.Cuts.{single_step}

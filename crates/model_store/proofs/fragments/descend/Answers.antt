@@ -1,6 +1,6 @@
-use Rattle.std.proofs.Common.{◌≡◌, ◌<◌, length, sym, ap, ◌∙◌, lit<, rules}
+use Rattle.std.proofs.Common.{sym, ap, ◌∙◌, lit<, rules}
 use Rattle.std.proofs.lemmas.Option.{MatchOption-at_none}
-use Rattle.model_store.specs.Paths.{content_named, descend, parts_of}
+use Rattle.model_store.specs.Paths.{descend, parts_of}
 use Rattle.model_store.proofs.Cuts.{down, bottom}
 use Rattle.model_store.proofs.fragments.descend.Goals as goal
 

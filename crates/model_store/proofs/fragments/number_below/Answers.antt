@@ -1,5 +1,5 @@
-use Rattle.std.proofs.Common.{◌≡◌, ◌<◌, ◌≤◌, length, sym, ap, ◌∙◌, arith, rules}
-use Rattle.model_store.proofs.Readings.{read, read_all, read_more, read_stops, read_done}
+use Rattle.std.proofs.Common.{◌<◌, ◌≤◌, length, sym, ◌∙◌, rules}
+use Rattle.model_store.proofs.Readings.{read_all, read_more, read_stops, read_done}
 use Rattle.model_store.proofs.fragments.number_below.Goals as goal
 
 pub loop-b-preserved : goal.loop-b-preserved

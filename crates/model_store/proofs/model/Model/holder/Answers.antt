@@ -1,4 +1,4 @@
-use Rattle.std.proofs.Common.{◌≡◌, ◌≤◌, length, sym, ap, ◌∙◌, arith, rules}
+use Rattle.std.proofs.Common.{◌≤◌, length, sym, ap, ◌∙◌, arith, rules}
 use Rattle.model_store.specs.Contents.{Contents, holder}
 use Rattle.model_store.proofs.SameHolders.{no_holder}
 use Rattle.model_store.proofs.model.Model.holder.Goals as goal

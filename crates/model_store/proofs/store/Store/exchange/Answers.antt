@@ -4,7 +4,7 @@ use Rattle.ecore_meta.specs.declared.parts.Parts.{Parts}
 use Rattle.model_store.specs.declared.parts.Object.{Object}
 use Rattle.model_store.specs.Contents.{Contents, HasPlace, object_at, object_count, place_in, set_slot, AreShaped}
 use Rattle.model_store.proofs.Updates.{set_slot_is, change_is, shaped_change, counted_change, length_change}
-use Rattle.model_store.proofs.store.Store.put.Goals as goal
+use Rattle.model_store.proofs.store.Store.exchange.Goals as goal
 
 pub invariant_of-self : goal.invariant_of-self
 invariant_of-self c =
@@ -19,7 +19,7 @@ invariant_of-self c =
     let told : Some at ≡ option_map_or (λ object. place_in c.args.self.now.meta object.class c.args.f) (object_at c.args.self.now.objects c.args.o) None = c.in-Some.ensures.place in
     let found : Some at ≡ option_map_or (λ object. place_in meta object.class c.args.f) (object_at objects c.args.o) None =
     subst (λ (v : Contents). Some at ≡ option_map_or (λ object. place_in v.meta object.class c.args.f) (object_at v.objects c.args.o) None) (sym same) told in
-    let change = change_is m c.args.o c.args.f at c.args.cells place found c.index_mut.result.now c.set_cells.new.place c.index_mut.ensures.value c.set_cells.ensures in
+    let change = change_is m c.args.o c.args.f at c.args.cells place found c.index_mut.result.now c.exchange_at.new.place c.index_mut.ensures.value c.exchange_at.ensures.new in
     let Keeps : List (Option Object) → Type 0 = λ xs. (c.self.inside.count ≡ object_count xs) × (length xs < 2 ^ 32) × AreShaped meta xs in
     subst Keeps (sym change) (
       i.0 ∙ sym (counted_change m c.args.o c.args.f at c.args.cells place found),
@@ -27,8 +27,8 @@ invariant_of-self c =
       shaped_change m c.args.o c.args.f at c.args.cells place found i.2,
     )
 
-pub returns : goal.returns
-returns c =
+pub returns-clause-new : goal.returns-clause-new
+returns-clause-new c =
     let objects : List (Option Object) = c.self.inside.objects.items in
     let meta : Parts = c.self.inside.meta.value in
     let m : Contents = record { meta = meta; objects = objects; roots = c.self.inside.roots.items } in
@@ -39,7 +39,7 @@ returns c =
     let told : Some at ≡ option_map_or (λ object. place_in c.args.self.now.meta object.class c.args.f) (object_at c.args.self.now.objects c.args.o) None = c.in-Some.ensures.place in
     let found : Some at ≡ option_map_or (λ object. place_in meta object.class c.args.f) (object_at objects c.args.o) None =
     subst (λ (v : Contents). Some at ≡ option_map_or (λ object. place_in v.meta object.class c.args.f) (object_at v.objects c.args.o) None) (sym same) told in
-    let change = change_is m c.args.o c.args.f at c.args.cells place found c.index_mut.result.now c.set_cells.new.place c.index_mut.ensures.value c.set_cells.ensures in
+    let change = change_is m c.args.o c.args.f at c.args.cells place found c.index_mut.result.now c.exchange_at.new.place c.index_mut.ensures.value c.exchange_at.ensures.new in
     ap (λ (xs : List (Option Object)). let v : Contents = record { meta = meta; objects = xs; roots = c.self.inside.roots.items } in v) change
     ∙ sym (set_slot_is m c.args.o c.args.f at c.args.cells place found)
     ∙ ap (λ (v : Contents). set_slot v c.args.o c.args.f c.args.cells) same
