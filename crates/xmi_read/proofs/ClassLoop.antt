@@ -1,5 +1,5 @@
 -- One class after the other: its features stand in front of those of later classes.
-use Rattle.std.proofs.Common.{◌≡◌, ℕ, zero, suc, ◌+◌, ◌-◌, ◌<◌, ◌≤◌, List, [], ◌∷◌, ◌++◌, length, get_or, map, drop, refl, sym, ap, ◌∙◌, subst, append_assoc, arith}
+use Rattle.std.proofs.Common.{◌≡◌, ℕ, zero, suc, ◌+◌, ◌<◌, ◌≤◌, List, [], ◌∷◌, ◌++◌, length, get_or, map, drop, refl, sym, ap, ◌∙◌, subst, append_assoc, arith}
 use Rattle.std.specs.Prelude.{filter_map}
 use Rattle.std.proofs.Math.Seq.{drop-nil}
 use Rattle.std.proofs.lemmas.List.{length-map, drop_more, drop-map, length-drop}
@@ -11,11 +11,11 @@ use Rattle.xmi_read.specs.Outline.{Entry}
 use Rattle.xmi_read.specs.References.{class_named}
 use Rattle.xmi_read.specs.Rows.{ClassRow, class_rows, super_numbers, FeatureRow, feature_rows}
 use Rattle.xmi_read.specs.Parts.{own_of, class_of, classes_from}
-use Rattle.xmi_read.specs.Groups.{own_run}
+use Rattle.xmi_read.specs.Groups.{own_run, IsRising}
 use Rattle.xmi_read.specs.Tables.{class_row_of, class_rows_of, feature_row_of, feature_rows_of}
 use Rattle.xmi_read.proofs.ClassParts.{made, made_is, own_run_length}
 use Rattle.xmi_read.proofs.Lists.{get_or_map}
-use Rattle.xmi_read.proofs.Runs.{IsRising, features_rise, run_is, rise_past, own_past}
+use Rattle.xmi_read.proofs.Runs.{features_rise, run_is, rise_past, own_past}
 
 drop_drop : {X : Type 0} (m b : ℕ) (xs : List X) → drop m (drop b xs) ≡ drop (b + m) xs
 drop_drop m zero xs =

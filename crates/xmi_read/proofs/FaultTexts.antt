@@ -1,9 +1,8 @@
 -- What a fault tells is text: what is given in the file, or a word of it.
-use Rattle.std.proofs.Common.{◌≡◌, ℕ, suc, ◌-◌, List, [], ◌∷◌, ◌++◌, refl, sym, ap, ◌∙◌, subst}
+use Rattle.std.proofs.Common.{◌≡◌, ℕ, suc, ◌-◌, List, [], ◌∷◌, ◌++◌, subst}
 use Rattle.std.specs.Prelude.{Bool, true, false, cond, ◌&&◌, not, bytes_eq, codes, Option, Some, None, option_map, is_some, is_none, find, slice_get, if◌then◌else◌}
 use Rattle.std.specs.Option.{option_map_or}
 use Rattle.std.specs.List.{list_any}
-use Rattle.std.proofs.lemmas.Option.{none-some, same_Some}
 use Rattle.atl_base.specs.XmlText.{IsXmlText}
 use Rattle.atl_base.specs.declared.place.Place.{Place}
 use Rattle.atl_base.proofs.XmlTexts.{IsXmlText-nil}
@@ -11,14 +10,14 @@ use Rattle.doc_text.specs.declared.tree.Attribute.{Attribute}
 use Rattle.doc_text.specs.declared.tree.Element.{Element}
 use Rattle.doc_text.specs.declared.tree.Prefix.{Prefix}
 use Rattle.xmi_read.specs.Markup.{Site, given, or_empty, words_of, sub_elements}
-use Rattle.xmi_read.specs.Outline.{Entry, Role, entry, Package, Class, Enum, Data, Literal, Attribute as AttributeRole, Reference, Super, TypeOf, Stray, is_generic, is_class_role, is_feature_role, is_enum_role, name_of, count}
+use Rattle.xmi_read.specs.Outline.{Entry, Role, entry, Package, Class, Enum, Data, Literal, Attribute as AttributeRole, Reference, Super, TypeOf, Stray, is_class_role, is_feature_role, name_of, count}
 use Rattle.xmi_read.specs.References.{names_file, class_named}
-use Rattle.xmi_read.specs.Types.{DataType, local_type, foreign_type, literals_of}
-use Rattle.xmi_read.specs.Rows.{Typed, ByData, ByClass, Foreign, Untyped, FeatureRow, or_foreign, foreign_word, by_data, by_class, is_foreign_data, attribute_typed, reference_typed, attribute_child_typed, reference_child_typed, text_typed, child_typed, type_behind, is_type_role, ends_feature, href, typed, super_words, super_numbers, is_own_super, feature_rows_from, feature_rows, conforms, is_unnamed, twice_from, twice_seen}
-use Rattle.xmi_read.specs.Faults.{Kind, Fault, when, or_else, first_of, NotEcore, IsSubPackage, Generic, NoName, TwiceName, OtherFile, NoType, SuperCycle, BadOpposite, BadNumber, is_not_ecore, is_sub_role, is_named_role, generic_attribute, generic_child, generic_in, is_bad_number, number_fault, typed_fault, feature_type_fault, last_feature, supers_fault, type_fault, is_bad_opposite, is_reference_role, opposite_fault, is_same_package, is_same_literal, is_same_classifier, classifier_twice, twice_fault, cycle_fault, fault_at, fault_from, first_fault}
+use Rattle.xmi_read.specs.Types.{DataType, local_type, foreign_type}
+use Rattle.xmi_read.specs.Rows.{Typed, ByData, ByClass, Foreign, Untyped, FeatureRow, or_foreign, foreign_word, by_data, by_class, is_foreign_data, attribute_typed, reference_typed, attribute_child_typed, reference_child_typed, text_typed, child_typed, type_behind, is_type_role, ends_feature, href, typed, super_words, super_numbers, is_own_super, feature_rows_from, feature_rows, conforms, is_unnamed, twice_from}
+use Rattle.xmi_read.specs.Faults.{Kind, Fault, when, or_else, first_of, NotEcore, IsSubPackage, Generic, NoName, TwiceName, OtherFile, NoType, SuperCycle, BadOpposite, BadNumber, is_not_ecore, is_sub_role, is_named_role, generic_in, is_bad_number, number_fault, typed_fault, feature_type_fault, last_feature, supers_fault, type_fault, is_bad_opposite, is_reference_role, opposite_fault, twice_fault, cycle_fault, fault_at, fault_from, first_fault}
 use Rattle.xmi_read.specs.Texts.{AreAttributeTexts, AreNameTexts, IsElementText, AreTexts}
-use Rattle.xmi_read.proofs.TextWords.{AreWordTexts, append_texts, words_are_texts}
-use Rattle.xmi_read.proofs.TextsOf.{value_is_text, given_is_text, name_is_text}
+use Rattle.xmi_read.proofs.TextWords.{AreWordTexts, words_are_texts}
+use Rattle.xmi_read.proofs.TextsOf.{given_is_text, name_is_text}
 
 abbrev pub IsTextFault : Option Fault → Type 0
 IsTextFault (Some f) = IsXmlText f.1

@@ -39,3 +39,9 @@ pub mod Reaching
 pub mod Places
 pub mod SeenNames
 pub mod PartsMade
+pub mod Positions
+pub mod OwnRows
+pub mod LiteralKeys
+pub mod Classified
+pub mod SeenBefore
+pub mod SeenRows

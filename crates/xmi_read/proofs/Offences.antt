@@ -1,5 +1,5 @@
 -- A text is not refused for what it holds.
-use Rattle.std.proofs.Common.{◌≡◌, ℕ, suc, ◌+◌, ◌<◌, List, length, take, Err, sym, subst, arith}
+use Rattle.std.proofs.Common.{◌≡◌, ℕ, suc, ◌+◌, List, length, Err, sym, subst, arith}
 use Rattle.std.proofs.lemmas.List.{take_all}
 use Rattle.atl_base.specs.Refusal.{Refuses}
 use Rattle.atl_base.specs.XmlText.{IsXmlText, IsFirstOffence}

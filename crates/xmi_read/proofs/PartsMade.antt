@@ -1,6 +1,5 @@
 -- The five lists, each as it is made.
 use Rattle.std.proofs.Common.{◌≡◌, List, map, ap, ◌∙◌}
-use Rattle.std.specs.Prelude.{filter}
 use Rattle.ecore_meta.specs.declared.parts.Class.{Class}
 use Rattle.ecore_meta.specs.declared.parts.EnumDef.{EnumDef}
 use Rattle.ecore_meta.specs.declared.parts.Feature.{Feature}

@@ -1,8 +1,7 @@
 -- What the tables of a file say at an element, and the counts past it.
-use Rattle.std.proofs.Common.{◌≡◌, ℕ, suc, ◌+◌, ◌-◌, ◌<◌, ◌≤◌, List, [], ◌∷◌, ◌++◌, length, get_or, map, take, drop, refl, sym, ap, ◌∙◌, subst, arith}
+use Rattle.std.proofs.Common.{◌≡◌, ℕ, suc, ◌+◌, ◌-◌, ◌<◌, ◌≤◌, List, [], ◌∷◌, ◌++◌, length, get_or, take, drop, refl, sym, ap, ◌∙◌, arith}
 use Rattle.std.specs.Prelude.{Bool, true, false, cond, not, ◌&&◌, bytes_eq, codes, find, Option, Some, None, option_map, slice_get, if◌then◌else◌}
 use Rattle.std.specs.Option.{option_map_or}
-use Rattle.std.proofs.lemmas.Bool.{and_parts}
 use Rattle.std.proofs.lemmas.List.{take_more, drop_more, take_rest, take-append-drop, map-append, length-map, length-take}
 use Rattle.std.proofs.lemmas.Option.{none-some, same_Some}
 use Rattle.atl_base.specs.declared.place.Place.{Place}

@@ -1,7 +1,7 @@
 -- Walks over supertypes: all that was reached was reached by steps, and where the supertypes of all that was reached are reached
 -- too, nothing is left.
 use Rattle.std.proofs.Common.{◌≡◌, ℕ, zero, suc, ◌+◌, ◌<◌, ◌≤◌, ◌⊎◌, inl, inr, List, [], ◌∷◌, ◌++◌, length, get_or, refl, sym, ap, ◌∙◌, subst, ⊎_elim, eqb, arith}
-use Rattle.std.specs.Prelude.{Bool, true, false, ◌==◌, ◌||◌, Contains, if◌then◌else◌, fold}
+use Rattle.std.specs.Prelude.{Bool, true, false, ◌==◌, ◌||◌, Contains, if◌then◌else◌}
 use Rattle.std.specs.List.{list_any}
 use Rattle.std.proofs.lemmas.Bool.{eq-eqb, eqb-true, or_left, or_right, or_cases, cases_lt}
 use Rattle.std.proofs.lemmas.List.{get_or_append_left, get_or_default, append-nil, append_assoc}
@@ -13,7 +13,7 @@ use Rattle.std.proofs.lemmas.Cmp.{nat_eq_equiv}
 use Rattle.indexmap.specs.IndexSet.{insert_key, insert_all}
 use Rattle.xmi_read.specs.Rows.{inherits, conforms}
 use Rattle.xmi_read.specs.Walks.{AreWithin, LeadWithin}
-use Rattle.xmi_read.proofs.Paths.{IsPath, Simple, one, further, passes, conforms_from}
+use Rattle.xmi_read.proofs.Paths.{Simple, one, further, passes, conforms_from}
 
 -- ## Two tests that pass together
 

@@ -1,5 +1,5 @@
 -- The numbers in the rows of a file fit, where the file is not too long; and defaults of types are text.
-use Rattle.std.proofs.Common.{◌≡◌, ℕ, suc, ◌+◌, ◌-◌, ◌<◌, ◌≤◌, List, [], ◌∷◌, ◌++◌, length, get_or, map, refl, sym, ap, ◌∙◌, subst, arith}
+use Rattle.std.proofs.Common.{◌≡◌, ℕ, suc, ◌<◌, ◌≤◌, List, [], ◌∷◌, ◌++◌, length, get_or, map, refl, sym, ap, subst, arith}
 use Rattle.std.specs.Prelude.{Bool, true, false, Option, Some, None, All, filter_map, if◌then◌else◌}
 use Rattle.std.specs.List.{cons_option}
 use Rattle.std.proofs.lemmas.List.{length-append, length-map}
@@ -15,10 +15,10 @@ use Rattle.xmi_read.specs.declared.rows.ClassRow.{ClassRow as CodeClassRow}
 use Rattle.xmi_read.specs.declared.rows.FeatureRow.{FeatureRow as CodeFeatureRow}
 use Rattle.xmi_read.specs.Tables.{class_row_of, class_rows_of, feature_row_of, feature_rows_of}
 use Rattle.xmi_read.specs.Texts.{AreTexts, HasTextDefault}
-use Rattle.xmi_read.proofs.DataTypes.{IsSound, AttributeFits, ReferenceFits, attribute_fits, reference_fits}
+use Rattle.xmi_read.proofs.DataTypes.{AttributeFits, ReferenceFits, attribute_fits, reference_fits}
 use Rattle.xmi_read.proofs.Lists.{get_or_map}
 use Rattle.xmi_read.proofs.Roles.{features}
-use Rattle.xmi_read.proofs.Splits.{all_rows, length-rows, count-append}
+use Rattle.xmi_read.proofs.Splits.{all_rows, length-rows}
 use Rattle.xmi_read.proofs.Tables.{tables, class_row, feature_row, the_classes, the_features, class_count, enum_count}
 use Rattle.xmi_read.proofs.Targets.{class_named_within, feature_named_at}
 use Rattle.xmi_read.proofs.TextsOf.{typed_default}

@@ -2,17 +2,11 @@
 use Rattle.std.proofs.Common.{◌≡◌, ℕ, suc, ◌+◌, ◌-◌, ◌≤◌, ◌<◌, List, [], ◌∷◌, length, drop, refl, sym, ap, ◌∙◌, arith, subst}
 use Rattle.std.specs.Prelude.{Bool, true, false, ◌==◌, if◌then◌else◌}
 use Rattle.std.proofs.lemmas.Bool.{eqb-true, eqb-false, ne_eqb}
-use Rattle.atl_base.specs.declared.numbers.FeatId.{FeatId}
 use Rattle.xmi_read.specs.Outline.{Entry, is_class_role, is_feature_role}
 use Rattle.xmi_read.specs.Rows.{FeatureRow, feature_rows_from, feature_rows, typed}
 use Rattle.xmi_read.specs.Parts.{feature_no, own_of}
-use Rattle.xmi_read.specs.Groups.{own_run}
+use Rattle.xmi_read.specs.Groups.{own_run, IsRising}
 use Rattle.xmi_read.proofs.Tests.{true-false}
-
--- the owners rise, from this one on
-abbrev pub IsRising : ℕ → List FeatureRow → Type 0
-IsRising k [] = Unit {0}
-IsRising k (row ∷ rows) = (k ≤ row.owner) × IsRising row.owner rows
 
 pub rising_from : (j k : ℕ) (rows : List FeatureRow) → j ≤ k → IsRising k rows → IsRising j rows
 rising_from j k [] l h = tt

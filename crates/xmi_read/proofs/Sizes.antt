@@ -1,5 +1,5 @@
 -- An outline is no longer than its document has elements.
-use Rattle.std.proofs.Common.{◌≡◌, ℕ, suc, ◌+◌, ◌≤◌, List, [], ◌∷◌, ◌++◌, length, map, refl, sym, ap, ◌∙◌, subst, arith}
+use Rattle.std.proofs.Common.{◌≡◌, ℕ, suc, ◌+◌, ◌≤◌, List, [], ◌∷◌, ◌++◌, length, map, refl, ap, ◌∙◌, arith}
 use Rattle.std.specs.Prelude.{Bool, true, false, ◌&&◌, not, is_some, codes, if◌then◌else◌}
 use Rattle.std.proofs.lemmas.List.{length-append}
 use Rattle.doc_text.specs.declared.tree.Child.{Child, out-Child, map-Child, fold_out-Child}
@@ -8,7 +8,7 @@ use Rattle.doc_text.specs.declared.tree.Doc.{Doc}
 use Rattle.doc_text.specs.declared.tree.Element.{Element, fold_out-Element}
 use Rattle.doc_text.specs.declared.tree.Prefix.{Prefix}
 use Rattle.xmi_read.specs.Markup.{Site, site, given, is_typed, elements_in, sub_elements}
-use Rattle.xmi_read.specs.Outline.{Entry, Role, entry, Around, Package, Class, Enum, Data, Literal, Attribute, Reference, SkippedAttribute, SkippedReference, Super, TypeOf, SkippedType, SubPackage, Stray, is_named, is_quiet, is_skipped, has_type, other_children, feature_children, feature_outline, feature, class_children, enum_children, classifier, package_children, package_outline, is_package, is_around, around_children, outline}
+use Rattle.xmi_read.specs.Outline.{Entry, Role, entry, Literal, Attribute, Reference, SkippedAttribute, SkippedReference, Super, TypeOf, SkippedType, SubPackage, Stray, is_named, is_quiet, is_skipped, has_type, other_children, feature_children, feature_outline, feature, class_children, enum_children, classifier, package_children, package_outline, is_package, is_around, around_children, outline}
 use Rattle.xmi_read.specs.Sizes.{total, child_layer, size_layer, size_of_element, size_of_child, size}
 
 -- ## The size of an element, by those in it

@@ -1,13 +1,13 @@
 -- Words of a text are texts.
-use Rattle.std.proofs.Common.{◌≡◌, ℕ, suc, ◌+◌, ◌<◌, List, [], ◌∷◌, ◌++◌, length, get_or, take, drop, refl, sym, ap, ◌∙◌, subst, append_assoc, arith, ⊎_elim}
+use Rattle.std.proofs.Common.{◌≡◌, ℕ, ◌<◌, List, [], ◌∷◌, ◌++◌, length, get_or, refl, sym, subst, append_assoc, arith}
 use Rattle.std.specs.Prelude.{Bool, true, false, ◌==◌, ◌||◌, if◌then◌else◌}
 use Rattle.std.specs.Str.{IsCharBoundary}
-use Rattle.std.proofs.lemmas.Bool.{eqb-true, or_cases}
+use Rattle.std.proofs.lemmas.Bool.{eqb-true}
 use Rattle.std.proofs.lemmas.List.{append-nil, length-append}
 use Rattle.std.proofs.lemmas.Str.{IsCharBoundary-before_ascii, encode_ascii}
 use Rattle.std.proofs.Math.Seq.{take-append_seam, drop-append_seam}
 use Rattle.atl_base.specs.XmlText.{IsXmlText}
-use Rattle.atl_base.proofs.XmlTexts.{IsXmlText-nil, IsXmlText-take, IsXmlText-drop, IsXmlText-parts}
+use Rattle.atl_base.proofs.XmlTexts.{IsXmlText-take, IsXmlText-drop, IsXmlText-parts}
 use Rattle.xmi_read.specs.Markup.{is_blank, and_word, words_from, words_of}
 use Rattle.xmi_read.proofs.Tests.{true-false}
 

@@ -1,5 +1,5 @@
 -- What the code's faults stand for: a kind and its value, and the place of the element.
-use Rattle.std.specs.Prelude.{◌≡◌, List, ◌++◌, ◌∷◌, Option, Some, None}
+use Rattle.std.specs.Prelude.{Option, Some, None}
 use Rattle.atl_base.specs.declared.place.Place.{Place}
 use Rattle.xmi_read.specs.declared.fault.Fault.{Fault as CodeFault}
 use Rattle.xmi_read.specs.declared.fault.FoundFault.{FoundFault}

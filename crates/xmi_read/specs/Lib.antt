@@ -16,3 +16,9 @@ pub mod Texts
 pub mod Sizes
 pub mod Walks
 pub mod FoundFaults
+pub mod Keys
+pub mod Owns
+pub mod Literals
+pub mod Classifiers
+pub mod FileTables
+pub mod Seen

@@ -1,5 +1,5 @@
 -- What can be read of a file is text: names, and the names and values of attributes.
-use Rattle.std.specs.Prelude.{ℕ, List, [], ◌∷◌}
+use Rattle.std.specs.Prelude.{List, [], ◌∷◌}
 use Rattle.atl_base.specs.XmlText.{IsXmlText}
 use Rattle.doc_text.specs.declared.tree.Attribute.{Attribute}
 use Rattle.doc_text.specs.declared.tree.Element.{Element}

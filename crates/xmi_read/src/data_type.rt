@@ -1,16 +1,19 @@
 // The types of attributes: data types of Ecore and of the file, and enumerations, each with the default that it gives.
-ghost use Rattle.std.specs.Prelude.{◌≡◌, ◌∷◌, ℕ, List, MatchOption, None, Some};
+ghost use Rattle.std.specs.Prelude.{◌≡◌, ◌∷◌, ℕ, List, MatchOption, None, Some, option_map};
 ghost use Rattle.std.specs.Option.{option_copied};
-ghost use Rattle.xmi_read.specs.Types.{plain as plain_of, DataType as SomeDataType, typed_by, ecore_types, instance_types, named_types, own_type as own_type_of, file_of as file_of_word, behind_hash as behind_hash_of, behind_slashes as behind_slashes_of, foreign_type as foreign_type_of, literal_text as literal_text_of, literals_of, first_text, is_literal_role, local_type as local_type_in};
+ghost use Rattle.xmi_read.specs.Types.{plain as plain_of, DataType as SomeDataType, typed_by, ecore_types, instance_types, named_types, own_type as own_type_of, file_of as file_of_word, behind_hash as behind_hash_of, behind_slashes as behind_slashes_of, foreign_type as foreign_type_of, literal_text as literal_text_of, is_literal_role, local_type as local_type_in};
 ghost use Rattle.xmi_read.specs.Entries.{entry_of, entries_of};
 ghost use Rattle.xmi_read.specs.DataTypes.{kind_of, data_type_of};
+ghost use Rattle.xmi_read.specs.References.{local_target as local_target_in};
+ghost use Rattle.xmi_read.specs.Classifiers.{data_of};
 
 use crate::cut::place_of;
+use crate::file::File;
 use crate::markup::{ECORE, given, given_text};
 use crate::outline::{Entry, Role};
-use crate::own::is_behind;
-use crate::role::{is_enum, name_of};
-use crate::target::{Target, local_target, one_more};
+use crate::references::{fragment, path_of};
+use crate::role::name_of;
+use crate::target::{Target, local_target};
 use doc_text::tree::Element;
 
 /// A sort of attribute; an enumeration by its number.
@@ -30,7 +33,8 @@ pub(crate) struct DataType<'a> {
     pub default: Option<&'a str>,
 }
 
-fn plain<'a>(kind: DataKind) -> DataType<'a>
+/// A type without a default.
+pub(crate) fn plain<'a>(kind: DataKind) -> DataType<'a>
     ensures { data_type_of result ≡ plain_of (kind_of kind) }
 {
     DataType {
@@ -163,23 +167,18 @@ pub(crate) fn is_literal(role: Role) -> bool
     matches!(role, Role::Literal)
 }
 
-// The text of an enumeration's first literal.
-fn first_literal<'a>(file: &[Entry<'a>], enumeration: usize) -> Option<&'a str>
-    ensures { option_copied result ≡ first_text (literals_of (entries_of file.now) enumeration) }
+// The type that the data type gives which a word names in its file.
+fn local_data<'a>(file: &File<'a>, word: &[u8]) -> Option<DataType<'a>>
+    ensures { option_map data_type_of result ≡ option_map data_of (local_target_in (entries_of file.now) word.now) }
 {
-    let mut enums = 0;
-    for i in 0..file.len() {
-        let entry = &file[i];
-        if !is_enum(entry.role) && is_literal(entry.role) && is_behind(enums, enumeration) {
-            return Some(literal_text(entry));
-        }
-        enums = one_more(enums, is_enum(entry.role));
+    match path_of(fragment(word)) {
+        Some(path) => file.given_type(&path),
+        None => None,
     }
-    None
 }
 
 /// The type that a word names in its file.
-pub(crate) fn local_type<'a>(file: &[Entry<'a>], word: &[u8]) -> Option<DataType<'a>>
+pub(crate) fn local_type<'a>(file: &File<'a>, word: &[u8]) -> Option<DataType<'a>>
     ensures { MatchOption result (local_type_in (entries_of file.now) word.now ≡ None)
         (λ t. local_type_in (entries_of file.now) word.now ≡ Some (data_type_of t)) }
 {
@@ -187,9 +186,9 @@ pub(crate) fn local_type<'a>(file: &[Entry<'a>], word: &[u8]) -> Option<DataType
         Some(Target::Class(_)) => None,
         Some(Target::Enum(place)) => Some(DataType {
             kind: DataKind::Enum(place),
-            default: first_literal(file, place),
+            default: file.first_literal(place),
         }),
-        Some(Target::Data(element)) => Some(own_type(element)),
+        Some(Target::Data(_)) => local_data(file, word),
         None => None,
     }
 }

@@ -15,6 +15,7 @@ ghost use Rattle.xmi_read.specs.Sizes.{IsSmallKind, IsSmallType};
 ghost use Rattle.xmi_read.specs.Texts.{AreTexts, HasTextDefault};
 
 use crate::data_type::DataKind;
+use crate::file::File;
 use crate::markup::{flag, given};
 use crate::numbers::is_many_upper;
 use crate::outline::{Entry, Role};
@@ -63,7 +64,7 @@ fn is_unique(entry: &Entry<'_>) -> bool
 }
 
 // The number of the feature that a reference names as its opposite.
-fn opposite_of(file: &[Entry<'_>], entry: &Entry<'_>) -> Option<FeatId>
+fn opposite_of(file: &File<'_>, entry: &Entry<'_>) -> Option<FeatId>
     requires { length file.now ≤ 4294967294 }
     ensures { result ≡ opposite_of_entry (entries_of file.now) (entry_of entry.now) }
 {
@@ -74,7 +75,7 @@ fn opposite_of(file: &[Entry<'_>], entry: &Entry<'_>) -> Option<FeatId>
 }
 
 // The number of the feature that a word names, where it is kept.
-fn number_of(file: &[Entry<'_>], word: &[u8]) -> Option<FeatId>
+fn number_of(file: &File<'_>, word: &[u8]) -> Option<FeatId>
     requires { length file.now ≤ 4294967294 }
     ensures { result ≡ kept (entries_of file.now) (feature_named_in (entries_of file.now) word.now) }
 {
@@ -98,7 +99,7 @@ fn data_kind(kind: DataKind) -> FeatKind
     }
 }
 
-fn kind_of(file: &[Entry<'_>], row: &FeatureRow<'_>) -> FeatKind
+fn kind_of(file: &File<'_>, row: &FeatureRow<'_>) -> FeatKind
     requires size { length file.now ≤ 4294967294 }
     requires small { IsSmallType (typed_of row.now.typed) }
     ensures { result ≡ kind_of_row (entries_of file.now) (feature_row_of row.now) (typed_of row.now.typed) }
@@ -159,11 +160,7 @@ fn is_id(entry: &Entry<'_>) -> bool
     is_attribute(entry.role) && flag("iD", entry.element)
 }
 
-fn feature_of(
-    alloc: Global,
-    file: &[Entry<'_>],
-    row: &FeatureRow<'_>,
-) -> Result<Feature, AllocError>
+fn feature_of(alloc: Global, file: &File<'_>, row: &FeatureRow<'_>) -> Result<Feature, AllocError>
     requires size { length file.now ≤ 4294967294 }
     requires owner { row.now.owner ≤ 4294967294 }
     requires small { IsSmallType (typed_of row.now.typed) }
@@ -185,7 +182,7 @@ fn feature_of(
 /// The features of a file, in their order.
 pub(crate) fn features(
     alloc: Global,
-    file: &[Entry<'_>],
+    file: &File<'_>,
     rows: &[FeatureRow<'_>],
 ) -> Result<Items<Feature>, AllocError>
     requires size { length file.now ≤ 4294967294 }

@@ -1,19 +1,22 @@
 // The first thing that is wrong in a file.
 ghost use Rattle.std.specs.Prelude.{◌≡◌, ◌+◌, ◌-◌, ◌<◌, ◌^◌, ◌++◌, ◌∷◌, [], List, Option, Some, None, IfOk, length, option_map, true, if◌then◌else◌};
-ghost use Rattle.xmi_read.specs.Outline.{Entry as SomeEntry, count, is_class_role, is_feature_role};
+ghost use Rattle.xmi_read.specs.Outline.{Entry as SomeEntry, count, is_class_role, is_feature_role, name_of as name_of_entry};
 ghost use Rattle.xmi_read.specs.Rows.{typed as typed_in, twice_seen as twice_seen_in, feature_rows as feature_rows_in};
-ghost use Rattle.xmi_read.specs.Faults.{Fault as SomeFault, or_else as or_else_of, classifier_twice as classifier_twice_in, twice_fault as twice_fault_in, type_fault as type_fault_in, cycle_fault as cycle_fault_in, opposite_fault as opposite_fault_in, number_fault as number_fault_in, fault_at as fault_at_in, first_fault as first_fault_in, TwiceName};
+ghost use Rattle.xmi_read.specs.Faults.{Fault as SomeFault, when as when_of, or_else as or_else_of, twice_fault as twice_fault_in, type_fault as type_fault_in, cycle_fault as cycle_fault_in, opposite_fault as opposite_fault_in, number_fault as number_fault_in, fault_at as fault_at_in, first_fault as first_fault_in, TwiceName};
 ghost use Rattle.xmi_read.specs.Entries.{entry_of, entries_of};
 ghost use Rattle.xmi_read.specs.DataTypes.{typed_of};
 ghost use Rattle.xmi_read.specs.Tables.{AreTables, AreCounted, feature_rows_of};
 ghost use Rattle.xmi_read.specs.FoundFaults.{fault_in, told};
+ghost use Rattle.xmi_read.specs.Seen.{repeats};
 
+use crate::earlier_names::{is_repeated, none_seen, note_names};
 use crate::fault::{Fault, FoundFault, Kind, element_fault, when};
+use crate::file::File;
 use crate::number_fault::number_fault;
 use crate::opposite::{is_bad_opposite, is_reference};
 use crate::outline::{Entry, Role};
 use crate::reach::{is_own_super, super_numbers};
-use crate::repeated::{has_same_classifier, has_same_literal, has_same_package, twice_seen};
+use crate::repeated::twice_seen;
 use crate::role::{is_class, is_enum, is_feature, name_of};
 use crate::rows::{FeatureRow, class_rows, feature_rows};
 use crate::target::one_more;
@@ -38,10 +41,10 @@ pub(crate) struct Counts {
     pub last: Role,
 }
 
-fn tables_of<'a>(alloc: Global, file: &[Entry<'a>]) -> Result<Tables<'a>, AllocError>
+fn tables_of<'a>(alloc: Global, file: &File<'a>) -> Result<Tables<'a>, AllocError>
     ensures { IfOk result (λ tables. AreTables (entries_of file.now) tables) }
 {
-    let classes = class_rows(alloc, file)?;
+    let classes = class_rows(alloc, file.entries())?;
     let supers = super_numbers(alloc, file, &classes)?;
     let features = feature_rows(alloc, file)?;
     Ok(Tables { supers, features })
@@ -71,18 +74,18 @@ fn past(counts: &Counts, entry: &Entry<'_>) -> Counts
 // A class whose name stands twice, or in which a name is seen twice.
 fn class_twice<'a>(
     alloc: Global,
-    file: &[Entry<'a>],
+    file: &File<'a>,
     tables: &Tables<'a>,
-    before: &[Entry<'a>],
+    repeated: bool,
     class: usize,
     entry: &Entry<'a>,
 ) -> Result<Option<Fault<'a>>, AllocError>
     requires tables { AreTables (entries_of file.now) tables.now }
     requires class { class < length tables.now.supers.items }
-    ensures { IfOk result (λ fault. fault_in fault ≡ or_else_of (classifier_twice_in (entries_of file.now) (entries_of before.now) (entry_of entry.now))
+    ensures { IfOk result (λ fault. fault_in fault ≡ or_else_of (when_of repeated TwiceName (name_of_entry (entry_of entry.now)))
         (option_map (λ n. (TwiceName, n)) (twice_seen_in (entries_of file.now) class))) }
 {
-    if has_same_classifier(before, entry) {
+    if repeated {
         return Ok(Some(Fault {
             kind: Kind::TwiceName,
             value: name_of(entry).as_bytes(),
@@ -100,35 +103,30 @@ fn class_twice<'a>(
 // A name that stands twice.
 fn twice_fault<'a>(
     alloc: Global,
-    file: &[Entry<'a>],
+    file: &File<'a>,
     tables: &Tables<'a>,
     before: &[Entry<'a>],
+    repeated: bool,
     counts: &Counts,
     entry: &Entry<'a>,
 ) -> Result<Option<Fault<'a>>, AllocError>
     requires tables { AreTables (entries_of file.now) tables.now }
     requires counts { AreCounted (entries_of file.now) counts.now (entries_of before.now) }
+    requires repeated { repeated ≡ repeats (entries_of before.now) (entry_of entry.now) }
     requires class { is_class_role entry.now.role ≡ true → counts.now.classes < length tables.now.supers.items }
     ensures { IfOk result (λ fault. fault_in fault ≡ twice_fault_in (entries_of file.now) (entries_of before.now) (entry_of entry.now)) }
 {
-    let name = name_of(entry).as_bytes();
-    match entry.role {
-        Role::Package => Ok(when(has_same_package(before, entry), Kind::TwiceName, name)),
-        Role::Class => class_twice(alloc, file, tables, before, counts.classes, entry),
-        Role::Enum => Ok(when(has_same_classifier(before, entry), Kind::TwiceName, name)),
-        Role::Data => Ok(when(has_same_classifier(before, entry), Kind::TwiceName, name)),
-        Role::Literal => Ok(when(
-            has_same_literal(before, counts.enums.saturating_sub(1), entry),
-            Kind::TwiceName,
-            name,
-        )),
-        _ => Ok(None),
+    if is_class(entry.role) {
+        let fault = class_twice(alloc, file, tables, repeated, counts.classes, entry)?;
+        return Ok(fault);
     }
+    let name = name_of(entry);
+    Ok(when(repeated, Kind::TwiceName, name.as_bytes()))
 }
 
 // The type of the feature of this number; where the element is none, nothing is told of it.
 fn type_at<'a>(
-    file: &[Entry<'a>],
+    file: &File<'a>,
     features: &[FeatureRow<'a>],
     feature: usize,
     before: &[Entry<'a>],
@@ -150,7 +148,7 @@ fn type_at<'a>(
 // A type or a supertype that names nothing, or a class of another file.
 fn type_fault<'a>(
     alloc: Global,
-    file: &[Entry<'a>],
+    file: &File<'a>,
     before: &[Entry<'a>],
     counts: &Counts,
     entry: &Entry<'a>,
@@ -174,7 +172,7 @@ fn type_fault<'a>(
 // A class that inherits from itself.
 fn cycle_fault<'a>(
     alloc: Global,
-    file: &[Entry<'a>],
+    file: &File<'a>,
     tables: &Tables<'a>,
     before: &[Entry<'a>],
     counts: &Counts,
@@ -194,7 +192,7 @@ fn cycle_fault<'a>(
 
 // A reference whose opposite does not fit.
 fn opposite_fault<'a>(
-    file: &[Entry<'a>],
+    file: &File<'a>,
     tables: &Tables<'a>,
     before: &[Entry<'a>],
     counts: &Counts,
@@ -218,15 +216,17 @@ fn opposite_fault<'a>(
 // What is wrong with an element in its file, behind what is wrong with it by itself.
 fn fault_in_file<'a>(
     alloc: Global,
-    file: &[Entry<'a>],
+    file: &File<'a>,
     tables: &Tables<'a>,
     before: &[Entry<'a>],
+    repeated: bool,
     counts: &Counts,
     entry: &Entry<'a>,
     behind: &[Entry<'a>],
 ) -> Result<Option<Fault<'a>>, AllocError>
     requires whole { entries_of file.now ≡ entries_of before.now ++ (entry_of entry.now ∷ entries_of behind.now) }
     requires tables { AreTables (entries_of file.now) tables.now }
+    requires repeated { repeated ≡ repeats (entries_of before.now) (entry_of entry.now) }
     requires counts { AreCounted (entries_of file.now) counts.now (entries_of before.now) }
     ensures { IfOk result (λ fault. fault_in fault
         ≡ or_else_of (twice_fault_in (entries_of file.now) (entries_of before.now) (entry_of entry.now))
@@ -235,7 +235,7 @@ fn fault_in_file<'a>(
         (or_else_of (opposite_fault_in (entries_of file.now) (entries_of before.now) (entry_of entry.now))
         (or_else_of (number_fault_in (entries_of file.now) entry.now.role (typed_in (entries_of file.now) (entry_of entry.now) (entries_of behind.now)) entry.now.element.now) None))))) }
 {
-    if let Some(fault) = twice_fault(alloc, file, tables, before, counts, entry)? {
+    if let Some(fault) = twice_fault(alloc, file, tables, before, repeated, counts, entry)? {
         return Ok(Some(fault));
     }
     let typed = type_at(
@@ -261,28 +261,30 @@ fn fault_in_file<'a>(
 // The first kind of fault at an element, where these stand before it and behind it.
 fn fault_at<'a>(
     alloc: Global,
-    file: &[Entry<'a>],
+    file: &File<'a>,
     tables: &Tables<'a>,
     before: &[Entry<'a>],
+    repeated: bool,
     counts: &Counts,
     entry: &Entry<'a>,
     behind: &[Entry<'a>],
 ) -> Result<Option<Fault<'a>>, AllocError>
     requires whole { entries_of file.now ≡ entries_of before.now ++ (entry_of entry.now ∷ entries_of behind.now) }
     requires tables { AreTables (entries_of file.now) tables.now }
+    requires repeated { repeated ≡ repeats (entries_of before.now) (entry_of entry.now) }
     requires counts { AreCounted (entries_of file.now) counts.now (entries_of before.now) }
     ensures { IfOk result (λ fault. fault_in fault ≡ fault_at_in (entries_of file.now) (entries_of before.now) (entry_of entry.now) (entries_of behind.now)) }
 {
     if let Some(fault) = element_fault(entry, behind) {
         return Ok(Some(fault));
     }
-    fault_in_file(alloc, file, tables, before, counts, entry, behind)
+    fault_in_file(alloc, file, tables, before, repeated, counts, entry, behind)
 }
 
 /// The first thing that is wrong in a file.
 pub(crate) fn first_fault<'a>(
     alloc: Global,
-    file: &[Entry<'a>],
+    file: &File<'a>,
 ) -> Result<Option<FoundFault<'a>>, AllocError>
     ensures { IfOk result (λ fault. told fault ≡ first_fault_in (entries_of file.now)) }
 {
@@ -293,16 +295,21 @@ pub(crate) fn first_fault<'a>(
         features: 0,
         last: Role::Stray,
     };
-    for i in 0..file.len() {
-        let entry = &file[i];
+    let mut seen = none_seen(alloc);
+    let entries = file.entries();
+    for i in 0..entries.len() {
+        let entry = &entries[i];
+        let repeated = is_repeated(&seen, counts.enums, entry);
+        note_names(&mut seen, counts.enums, entry)?;
         let fault = fault_at(
             alloc,
             file,
             &tables,
-            &file[..i],
+            &entries[..i],
+            repeated,
             &counts,
             entry,
-            &file[i + 1..],
+            &entries[i + 1..],
         )?;
         if let Some(fault) = fault {
             return Ok(Some(FoundFault {

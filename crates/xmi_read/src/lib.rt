@@ -2,22 +2,28 @@
 #![tactic(auto)]
 
 mod classes;
+mod classifiers;
 mod cut;
 mod data_type;
+mod earlier_names;
 mod element_fault;
 mod enums;
 mod fault;
 mod features;
+mod file;
 mod first_fault;
 mod form;
+mod keys;
 mod known_text;
 pub mod laws;
+mod literals;
 mod markup;
 mod number_fault;
 mod numbers;
 mod opposite;
 mod outline;
 mod own;
+mod owns;
 mod packages;
 mod reach;
 pub mod read_metamodel;

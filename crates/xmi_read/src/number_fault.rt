@@ -1,21 +1,18 @@
 // Bounds and defaults that are none.
 ghost use Rattle.std.specs.Prelude.{◌≡◌, ◌&&◌, not, bytes_eq, codes, [], find, option_map};
 ghost use Rattle.std.specs.Option.{option_copied};
-ghost use Rattle.std.specs.List.{list_any};
-ghost use Rattle.xmi_read.specs.Types.{literals_of, literal_text as literal_text_of};
 ghost use Rattle.xmi_read.specs.Rows.{typed as typed_in};
 ghost use Rattle.xmi_read.specs.Faults.{is_attribute_role, is_text_of as is_text_in, is_bad_default as is_bad_default_in, is_bad_number as is_bad_number_in, number_fault as number_fault_in};
 ghost use Rattle.xmi_read.specs.Entries.{entry_of, entries_of};
 ghost use Rattle.xmi_read.specs.DataTypes.{kind_of, typed_of};
 ghost use Rattle.xmi_read.specs.FoundFaults.{fault_in};
 
-use crate::data_type::{DataKind, is_literal, literal_text};
+use crate::data_type::DataKind;
 use crate::fault::{Fault, Kind};
+use crate::file::File;
 use crate::numbers::{is_int_text, is_upper};
 use crate::outline::{Entry, Role};
-use crate::own::is_behind;
-use crate::role::{is_enum, is_feature};
-use crate::target::one_more;
+use crate::role::is_feature;
 use crate::typed::Typed;
 use doc_text::tree::{Attribute, Element};
 
@@ -25,39 +22,20 @@ pub(crate) fn is_attribute(role: Role) -> bool
     matches!(role, Role::Attribute)
 }
 
-// Whether an enumeration has a literal of this text.
-fn has_literal(file: &[Entry<'_>], enumeration: usize, text: &[u8]) -> bool
-    ensures { result ≡ list_any (λ l. bytes_eq (literal_text_of l) text.now) (literals_of (entries_of file.now) enumeration) }
-{
-    let mut enums = 0;
-    for i in 0..file.len() {
-        let entry = &file[i];
-        if is_enum(entry.role) {
-            enums = one_more(enums, true);
-        } else if is_literal(entry.role)
-            && is_behind(enums, enumeration)
-            && literal_text(entry).as_bytes() == text
-        {
-            return true;
-        }
-    }
-    false
-}
-
 // Whether a text is one of an attribute's type.
-fn is_text_of(file: &[Entry<'_>], kind: DataKind, text: &[u8]) -> bool
+fn is_text_of(file: &File<'_>, kind: DataKind, text: &[u8]) -> bool
     ensures { result ≡ is_text_in (entries_of file.now) (kind_of kind) text.now }
 {
     match kind {
         DataKind::Int => is_int_text(text),
         DataKind::Truth => text == "true".as_bytes() || text == "false".as_bytes(),
-        DataKind::Enum(enumeration) => has_literal(file, enumeration, text),
+        DataKind::Enum(enumeration) => file.has_literal(enumeration, text),
         DataKind::Str => true,
         DataKind::Opaque => true,
     }
 }
 
-fn is_bad_default(file: &[Entry<'_>], typed: &Typed<'_>, text: &[u8]) -> bool
+fn is_bad_default(file: &File<'_>, typed: &Typed<'_>, text: &[u8]) -> bool
     ensures { result ≡ is_bad_default_in (entries_of file.now) (typed_of typed.now) text.now }
 {
     match typed {
@@ -75,7 +53,7 @@ fn is_called(attribute: &Attribute, name: &str) -> bool
 }
 
 // Whether an attribute of an element is a bad bound or a bad default.
-fn is_bad_number(file: &[Entry<'_>], role: Role, typed: &Typed<'_>, attribute: &Attribute) -> bool
+fn is_bad_number(file: &File<'_>, role: Role, typed: &Typed<'_>, attribute: &Attribute) -> bool
     ensures { result ≡ is_bad_number_in (entries_of file.now) role (typed_of typed.now) attribute.now }
 {
     if is_called(attribute, "upperBound") {
@@ -88,7 +66,7 @@ fn is_bad_number(file: &[Entry<'_>], role: Role, typed: &Typed<'_>, attribute: &
 
 /// The first bound or default of an element that is none.
 pub(crate) fn number_fault<'a>(
-    file: &[Entry<'a>],
+    file: &File<'a>,
     role: Role,
     typed: &Typed<'a>,
     element: &'a Element,

@@ -9,6 +9,7 @@ ghost use Rattle.xmi_read.specs.Entries.{entry_of, entries_of};
 ghost use Rattle.xmi_read.specs.DataTypes.{typed_of};
 ghost use Rattle.xmi_read.specs.Tables.{feature_row_of, feature_rows_of};
 
+use crate::file::File;
 use crate::markup::{flag, given};
 use crate::outline::{Entry, Role};
 use crate::own::{Own, feature_named};
@@ -28,7 +29,7 @@ fn is_contained(entry: &Entry<'_>) -> bool
 }
 
 // Whether a word names the feature of this number.
-fn names_feature(file: &[Entry<'_>], word: &[u8], feature: usize) -> bool
+fn names_feature(file: &File<'_>, word: &[u8], feature: usize) -> bool
     ensures { result ≡ is_this_of [] feature (feature_named_in (entries_of file.now) word.now) }
 {
     match feature_named(file, word) {
@@ -39,7 +40,7 @@ fn names_feature(file: &[Entry<'_>], word: &[u8], feature: usize) -> bool
 }
 
 // Whether the opposite of an element is the feature of this number.
-fn names_back(file: &[Entry<'_>], entry: &Entry<'_>, feature: usize) -> bool
+fn names_back(file: &File<'_>, entry: &Entry<'_>, feature: usize) -> bool
     ensures { result ≡ option_map_or (λ text. is_this_of [] feature (feature_named_in (entries_of file.now) text)) (given_of (codes "eOpposite") entry.now.element.now) false }
 {
     match given("eOpposite", entry.element) {
@@ -88,7 +89,7 @@ fn fits(features: &[FeatureRow<'_>], row: &FeatureRow<'_>, other: usize) -> bool
 
 // Whether the feature of number `other`, at this element, is the opposite of the one of number `feature`.
 fn is_opposite(
-    file: &[Entry<'_>],
+    file: &File<'_>,
     features: &[FeatureRow<'_>],
     feature: usize,
     row: &FeatureRow<'_>,
@@ -106,7 +107,7 @@ fn is_opposite(
 
 // Whether a word names no opposite of a feature.
 fn is_bad_end(
-    file: &[Entry<'_>],
+    file: &File<'_>,
     features: &[FeatureRow<'_>],
     feature: usize,
     row: &FeatureRow<'_>,
@@ -124,7 +125,7 @@ fn is_bad_end(
 
 /// Whether a feature, of this number, names an opposite that is none.
 pub(crate) fn is_bad_opposite(
-    file: &[Entry<'_>],
+    file: &File<'_>,
     features: &[FeatureRow<'_>],
     feature: usize,
     row: &FeatureRow<'_>,

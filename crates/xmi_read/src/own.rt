@@ -6,10 +6,10 @@ ghost use Rattle.xmi_read.specs.Entries.{entry_of, entries_of};
 ghost use Rattle.xmi_read.specs.Targets.{own_of, feature_path};
 
 use crate::cut::place_of;
+use crate::file::File;
 use crate::outline::Entry;
 use crate::references::{Path, fragment, names_file};
-use crate::role::{is_class, is_feature, is_skipped, name_of};
-use crate::target::{Target, find_target, one_more};
+use crate::target::Target;
 
 /// A feature of a class.
 #[derive(Clone, Copy)]
@@ -75,40 +75,12 @@ pub(crate) fn is_behind(classes: usize, class: usize) -> bool
     classes - 1 == class
 }
 
-fn is_called(entry: &Entry<'_>, name: &[u8]) -> bool
-    ensures { result ≡ bytes_eq (name_of_entry (entry_of entry.now)) name.now }
-{
-    name_of(entry).as_bytes() == name
-}
-
-// A class's own feature of this name.
-fn own_of_class<'a>(file: &[Entry<'a>], class: usize, name: &[u8]) -> Option<Own<'a>>
-    ensures { MatchOption result (own_from class name.now 0 0 (entries_of file.now) ≡ None)
-        (λ o. own_from class name.now 0 0 (entries_of file.now) ≡ Some (own_of o)) }
-{
-    let mut classes = 0;
-    let mut features = 0;
-    for i in 0..file.len() {
-        let entry = &file[i];
-        let is_named = is_behind(classes, class) && is_called(entry, name);
-        if is_named && is_feature(entry.role) {
-            return Some(Own::Kept(features, *entry));
-        }
-        if is_named && is_skipped(entry.role) {
-            return Some(Own::Skips);
-        }
-        classes = one_more(classes, is_class(entry.role));
-        features = one_more(features, is_feature(entry.role));
-    }
-    None
-}
-
-fn own_named<'a>(file: &[Entry<'a>], path: &FeaturePath<'_>) -> Option<Own<'a>>
+fn own_named<'a>(file: &File<'a>, path: &FeaturePath<'_>) -> Option<Own<'a>>
     ensures { MatchOption result (own_named_in (entries_of file.now) (feature_path path.now) ≡ None)
         (λ o. own_named_in (entries_of file.now) (feature_path path.now) ≡ Some (own_of o)) }
 {
-    match find_target(file, &path.path) {
-        Some(Target::Class(class)) => own_of_class(file, class, path.feature),
+    match file.target(&path.path) {
+        Some(Target::Class(class)) => file.own(class, path.feature),
         Some(Target::Enum(_)) => None,
         Some(Target::Data(_)) => None,
         None => None,
@@ -116,7 +88,7 @@ fn own_named<'a>(file: &[Entry<'a>], path: &FeaturePath<'_>) -> Option<Own<'a>>
 }
 
 /// The feature that a word names.
-pub(crate) fn feature_named<'a>(file: &[Entry<'a>], word: &[u8]) -> Option<Own<'a>>
+pub(crate) fn feature_named<'a>(file: &File<'a>, word: &[u8]) -> Option<Own<'a>>
     ensures { MatchOption result (feature_named_in (entries_of file.now) word.now ≡ None)
         (λ o. feature_named_in (entries_of file.now) word.now ≡ Some (own_of o)) }
 {

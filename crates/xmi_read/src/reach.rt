@@ -8,6 +8,7 @@ ghost use Rattle.xmi_read.specs.Entries.{entries_of};
 ghost use Rattle.xmi_read.specs.Tables.{class_rows_of};
 ghost use Rattle.xmi_read.specs.Walks.{AreWithin, LeadWithin};
 
+use crate::file::File;
 use crate::outline::Entry;
 use crate::rows::ClassRow;
 use crate::target::class_named;
@@ -16,11 +17,7 @@ use sqlite_items::Items;
 use std::alloc::{AllocError, Global};
 
 // The classes that words name.
-fn numbers_of(
-    alloc: Global,
-    file: &[Entry<'_>],
-    words: &[&[u8]],
-) -> Result<Items<usize>, AllocError>
+fn numbers_of(alloc: Global, file: &File<'_>, words: &[&[u8]]) -> Result<Items<usize>, AllocError>
     ensures { IfOk result (λ numbers. numbers ≡ filter_map (class_named_in (entries_of file.now)) (map (λ w. w.now) words.now)) }
 {
     let mut numbers = Vec::new(alloc);
@@ -35,7 +32,7 @@ fn numbers_of(
 /// For each class the numbers of its supertypes.
 pub(crate) fn super_numbers(
     alloc: Global,
-    file: &[Entry<'_>],
+    file: &File<'_>,
     classes: &[ClassRow<'_>],
 ) -> Result<Vec<Items<usize>>, AllocError>
     requires { class_rows_of classes.now ≡ class_rows_in (entries_of file.now) }

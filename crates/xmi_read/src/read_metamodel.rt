@@ -13,9 +13,10 @@ use crate::classes::classes;
 use crate::enums::enums;
 use crate::fault::{FoundFault, Kind};
 use crate::features::features;
+use crate::file::File;
 use crate::first_fault::first_fault;
 use crate::known_text::know_texts;
-use crate::outline::{Entry, outline};
+use crate::outline::outline;
 use crate::packages::packages;
 use crate::reach::super_numbers;
 use crate::refusal::MetaRefusal;
@@ -28,20 +29,21 @@ use ecore_meta::parts::Parts;
 use std::alloc::{AllocError, Global};
 
 // The five lists that a file stands for.
-fn parts_of(alloc: Global, file: &[Entry<'_>]) -> Result<Parts, AllocError>
+fn parts_of(alloc: Global, file: &File<'_>) -> Result<Parts, AllocError>
     requires size { length file.now ≤ 4294967294 }
     requires texts { AreTexts (entries_of file.now) }
     ensures { IfOk result (λ parts. parts ≡ parts_of_file (entries_of file.now)) }
 {
-    let rows = class_rows(alloc, file)?;
+    let entries = file.entries();
+    let rows = class_rows(alloc, entries)?;
     let supers = super_numbers(alloc, file, &rows)?;
     let declared = feature_rows(alloc, file)?;
     Ok(Parts {
-        packages: packages(alloc, file)?,
-        classes: classes(alloc, file, &rows, &supers, &declared)?,
+        packages: packages(alloc, entries)?,
+        classes: classes(alloc, entries, &rows, &supers, &declared)?,
         features: features(alloc, file, &declared)?,
-        enums: enums(alloc, file)?,
-        skipped: skipped(alloc, file)?,
+        enums: enums(alloc, entries)?,
+        skipped: skipped(alloc, entries)?,
     })
 }
 
@@ -69,7 +71,7 @@ fn refusal_of(alloc: Global, found: &FoundFault<'_>) -> MetaRefusal
 }
 
 // The metamodel of a file in which nothing is wrong.
-fn metamodel_of(alloc: Global, file: &[Entry<'_>]) -> Result<Metamodel, AllocError>
+fn metamodel_of(alloc: Global, file: &File<'_>) -> Result<Metamodel, AllocError>
     requires size { length file.now ≤ 4294967294 }
     requires texts { AreTexts (entries_of file.now) }
     requires valid { IsMetamodel (parts_of_file (entries_of file.now)) }
@@ -79,18 +81,27 @@ fn metamodel_of(alloc: Global, file: &[Entry<'_>]) -> Result<Metamodel, AllocErr
     Metamodel::new(alloc, parts)
 }
 
+// The file of a document, whose texts are known to be texts.
+fn file_of(alloc: Global, doc: &Doc) -> Result<File<'_>, AllocError>
+    ensures outline { IfOk result (λ file. entries_of file ≡ outline_of doc.now) }
+    ensures texts { IfOk result (λ file. AreTexts (entries_of file)) }
+{
+    let entries = outline(alloc, doc)?;
+    know_texts(&entries);
+    let file = File::new(alloc, entries)?;
+    Ok(file)
+}
+
 /// The metamodel that a document stands for, or the first thing that is wrong in it, in document order. The outline is
 /// short enough where the document has at most 4,294,967,294 elements and attributes.
 pub fn read_metamodel(alloc: Global, doc: &Doc) -> Result<Metamodel, MetaRefusal>
     requires { length (outline_of doc.now) ≤ 4294967294 }
     ensures { IsMetaAnswer doc.now result }
 {
-    let entries = outline(alloc, doc)?;
-    let file = entries.as_slice();
-    know_texts(file);
-    match first_fault(alloc, file)? {
+    let file = file_of(alloc, doc)?;
+    match first_fault(alloc, &file)? {
         Some(found) => Err(refusal_of(alloc, &found)),
-        None => Ok(metamodel_of(alloc, file)?),
+        None => Ok(metamodel_of(alloc, &file)?),
     }
 }
 

@@ -1,89 +1,88 @@
-// Names that stand twice: of packages, classifiers and literals, and of the features that are seen in a class.
-ghost use Rattle.std.specs.Prelude.{◌≡◌, ◌&&◌, ◌||◌, ◌-◌, ◌<◌, bytes_eq, IfOk, length, []};
-ghost use Rattle.std.specs.Option.{option_copied};
+// Names that stand twice among the features that are seen in a class.
+ghost use Rattle.std.specs.Prelude.{◌≡◌, ◌<◌, ◌≤◌, ◌+◌, ℕ, List, true, max, [], ◌∷◌, nat_eq, nat_le, map, filter, drop, IfOk, length, Some, if◌then◌else◌};
+ghost use Rattle.std.specs.Option.{option_copied, option_or};
 ghost use Rattle.std.specs.List.{list_any};
-ghost use Rattle.xmi_read.specs.Outline.{count, is_class_role, is_enum_role, name_of as name_of_entry};
-ghost use Rattle.xmi_read.specs.Types.{literals_of, literal_text as literal_text_of};
-ghost use Rattle.xmi_read.specs.Rows.{twice_from, super_numbers, feature_rows};
-ghost use Rattle.xmi_read.specs.Faults.{is_same_literal as is_same_literal_of, is_same_package as is_same_package_of, is_same_classifier as is_same_classifier_of, twice_fault as twice_fault_of, when as when_of, or_else as or_else_of, TwiceName};
-ghost use Rattle.xmi_read.specs.Entries.{entry_of, entries_of};
-ghost use Rattle.xmi_read.specs.Tables.{feature_rows_of};
+ghost use Rattle.std.specs.List.Sorted.{IsNonDecreasing};
+ghost use Rattle.xmi_read.specs.Outline.{name_of as name_of_entry};
+ghost use Rattle.xmi_read.specs.Rows.{FeatureRow as SomeRow, conforms, twice_from};
+ghost use Rattle.xmi_read.specs.Groups.{IsRising, past_run};
+ghost use Rattle.xmi_read.specs.Entries.{entry_of};
+ghost use Rattle.xmi_read.specs.Tables.{feature_row_of, feature_rows_of};
 ghost use Rattle.xmi_read.specs.Walks.{LeadWithin};
-ghost use Rattle.xmi_read.specs.FoundFaults.{fault_in};
 
-use crate::data_type::{is_literal, literal_text};
-use crate::fault::{Fault, Kind, when};
-use crate::form::{prefix_of, uri_of};
-use crate::outline::{Entry, Role};
-use crate::own::is_behind;
 use crate::reach::reach;
-use crate::role::{is_classifier, is_enum, is_package, name_of};
+use crate::role::name_of;
 use crate::rows::FeatureRow;
-use crate::target::one_more;
 use indexmap::IndexSet;
 use sqlite_items::Items;
 use std::alloc::{AllocError, Global};
 
-fn is_same_literal(entry: &Entry<'_>, other: &Entry<'_>) -> bool
-    ensures { result ≡ is_same_literal_of [] (entry_of entry.now) (entry_of other.now) }
+// The classes in rising order.
+fn sorted(alloc: Global, classes: &[usize]) -> Result<Vec<usize>, AllocError>
+    ensures rising { IfOk result (λ list. IsNonDecreasing list.items) }
+    ensures same { IfOk result (λ list. (d : ℕ) → list_any (nat_eq d) list.items ≡ list_any (nat_eq d) classes.now) }
 {
-    name_of(other) == name_of(entry) || literal_text(other) == literal_text(entry)
+    let mut list = Vec::from_slice(alloc, classes)?;
+    list.sort()?;
+    Ok(list)
 }
 
-fn is_same_package(entry: &Entry<'_>, other: &Entry<'_>) -> bool
-    ensures { result ≡ is_same_package_of [] (entry_of entry.now) (entry_of other.now) }
+// Where the features of this class and of later ones begin.
+fn begin_of(features: &[FeatureRow<'_>], class: u128) -> usize
+    requires { IsRising 0 (feature_rows_of features.now) }
+    ensures within { result ≤ length features.now }
+    ensures begin { feature_rows_of (drop result features.now) ≡ filter (λ row. nat_le class row.owner) (feature_rows_of features.now) }
 {
-    is_package(other.role)
-        && (uri_of(other) == uri_of(entry) || prefix_of(other) == prefix_of(entry))
+    features.partition_point(|row| (row.owner as u128) < class)
 }
 
-fn is_same_classifier(entry: &Entry<'_>, other: &Entry<'_>) -> bool
-    ensures { result ≡ is_same_classifier_of [] (entry_of entry.now) (entry_of other.now) }
+fn later(next: u128, class: usize) -> u128
+    ensures { result ≡ max next class }
 {
-    is_classifier(other.role) && name_of(other) == name_of(entry)
+    next.max(class as u128)
 }
 
-/// Whether a package of the same namespace or prefix stands before.
-pub(crate) fn has_same_package(before: &[Entry<'_>], entry: &Entry<'_>) -> bool
-    ensures { result ≡ list_any (is_same_package_of [] (entry_of entry.now)) (entries_of before.now) }
+fn past(next: u128, class: usize) -> u128
+    ensures { result ≡ max next (class + 1) }
 {
-    for i in 0..before.len() {
-        if is_same_package(entry, &before[i]) {
-            return true;
+    next.max(class as u128 + 1)
+}
+
+// Adds the name of a feature, where it has one, and says whether it stands there already.
+fn twice_here<'a>(seen: &mut IndexSet<&'a str>, row: &FeatureRow<'a>) -> Result<bool, AllocError>
+    ensures { IfOk result (λ twice. (supers : List (List ℕ)) (class : ℕ) (rows : List SomeRow) → conforms supers class row.now.owner ≡ true
+        → twice_from supers class (map (λ k. k.now) seen.old.keys) (feature_row_of row.now ∷ rows)
+        ≡ (if twice then Some (name_of_entry (entry_of row.now.entry)) else twice_from supers class (map (λ k. k.now) seen.new.keys) rows)) }
+{
+    let name = name_of(&row.entry);
+    if name.is_empty() {
+        return Ok(false);
+    }
+    let is_new = seen.insert(name)?;
+    Ok(!is_new)
+}
+
+// The first name that stands twice among those before and those of the features of a class that stand first.
+fn twice_own<'a>(
+    seen: &mut IndexSet<&'a str>,
+    owner: usize,
+    rows: &[FeatureRow<'a>],
+) -> Result<Option<&'a str>, AllocError>
+    ensures { IfOk result (λ name. (supers : List (List ℕ)) (class : ℕ) → conforms supers class owner ≡ true
+        → twice_from supers class (map (λ k. k.now) seen.old.keys) (feature_rows_of rows.now)
+        ≡ option_or (option_copied name) (twice_from supers class (map (λ k. k.now) seen.new.keys) (past_run owner (feature_rows_of rows.now)))) }
+{
+    for i in 0..rows.len() {
+        let row = &rows[i];
+        if row.owner != owner {
+            return Ok(None);
+        }
+        let twice = twice_here(seen, row)?;
+        if twice {
+            return Ok(Some(name_of(&row.entry)));
         }
     }
-    false
-}
-
-/// Whether a classifier of the same name stands before.
-pub(crate) fn has_same_classifier(before: &[Entry<'_>], entry: &Entry<'_>) -> bool
-    ensures { result ≡ list_any (is_same_classifier_of [] (entry_of entry.now)) (entries_of before.now) }
-{
-    for i in 0..before.len() {
-        if is_same_classifier(entry, &before[i]) {
-            return true;
-        }
-    }
-    false
-}
-
-/// Whether a literal of the enumeration, of the same name or text, stands before.
-pub(crate) fn has_same_literal(before: &[Entry<'_>], enumeration: usize, entry: &Entry<'_>) -> bool
-    ensures { result ≡ list_any (is_same_literal_of [] (entry_of entry.now)) (literals_of (entries_of before.now) enumeration) }
-{
-    let mut enums = 0;
-    for i in 0..before.len() {
-        let other = &before[i];
-        if is_enum(other.role) {
-            enums = one_more(enums, true);
-        } else if is_literal(other.role)
-            && is_behind(enums, enumeration)
-            && is_same_literal(entry, other)
-        {
-            return true;
-        }
-    }
-    false
+    Ok(None)
 }
 
 /// The first name of a feature that is seen in a class twice.
@@ -95,19 +94,23 @@ pub(crate) fn twice_seen<'a>(
 ) -> Result<Option<&'a str>, AllocError>
     requires leads { LeadWithin supers.now }
     requires class { class < length supers.now }
+    requires rising { IsRising 0 (feature_rows_of features.now) }
     ensures { IfOk result (λ name. option_copied name ≡ twice_from supers.now class [] (feature_rows_of features.now)) }
 {
     let reached = reach(alloc, supers, &[class])?;
+    let classes = sorted(alloc, reached.as_slice())?;
     let mut seen = IndexSet::new(alloc);
-    for i in 0..features.len() {
-        let row = &features[i];
-        let name = name_of(&row.entry);
-        if reached.contains(&row.owner) && !name.is_empty() {
-            let is_new = seen.insert(name)?;
-            if !is_new {
-                return Ok(Some(name));
-            }
+    let mut next: u128 = 0;
+    let list = classes.as_slice();
+    for k in 0..list.len() {
+        let owner = list[k];
+        let start = later(next, owner);
+        let begin = begin_of(features, start);
+        let name = twice_own(&mut seen, owner, &features[begin..])?;
+        if name.is_some() {
+            return Ok(name);
         }
+        next = past(next, owner);
     }
     Ok(None)
 }

@@ -5,6 +5,7 @@ ghost use Rattle.xmi_read.specs.Entries.{entry_of, entries_of};
 ghost use Rattle.xmi_read.specs.DataTypes.{typed_of};
 ghost use Rattle.xmi_read.specs.Tables.{class_rows_of, feature_rows_of};
 
+use crate::file::File;
 use crate::markup::given_text;
 use crate::outline::{Entry, Role};
 use crate::role::{is_class, is_classifier, is_feature, is_package};
@@ -118,7 +119,7 @@ fn push_feature<'a>(
     alloc: Global,
     rows: &mut Vec<FeatureRow<'a>>,
     classes: usize,
-    file: &[Entry<'a>],
+    file: &File<'a>,
     entry: &Entry<'a>,
     behind: &[Entry<'a>],
 ) -> Result<(), AllocError>
@@ -137,16 +138,17 @@ fn push_feature<'a>(
 /// The features of a file.
 pub(crate) fn feature_rows<'a>(
     alloc: Global,
-    file: &[Entry<'a>],
+    file: &File<'a>,
 ) -> Result<Vec<FeatureRow<'a>>, AllocError>
     ensures { IfOk result (λ rows. feature_rows_of rows.items ≡ feature_rows_in (entries_of file.now)) }
 {
     let mut rows = Vec::new(alloc);
     let mut classes = 0;
-    for i in 0..file.len() {
-        let entry = &file[i];
+    let entries = file.entries();
+    for i in 0..entries.len() {
+        let entry = &entries[i];
         if is_feature(entry.role) {
-            push_feature(alloc, &mut rows, classes, file, entry, &file[i + 1..])?;
+            push_feature(alloc, &mut rows, classes, file, entry, &entries[i + 1..])?;
         } else {
             classes = one_more(classes, is_class(entry.role));
         }

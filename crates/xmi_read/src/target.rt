@@ -1,14 +1,14 @@
 // What references name: the first classifier that a path fits, by its number.
 ghost use Rattle.std.specs.Prelude.{◌≡◌, ℕ, ◌<◌, ◌^◌, suc, if◌then◌else◌, MatchOption, None, Some};
-ghost use Rattle.xmi_read.specs.References.{path, is_holder as is_holder_of, past as past_of, is_named_by as is_named_by_of, target_here as target_here_of, target as target_in, class_named as class_named_in, local_target as local_target_in};
+ghost use Rattle.xmi_read.specs.References.{path, past as past_of, target_here as target_here_of, class_named as class_named_in, local_target as local_target_in};
 ghost use Rattle.xmi_read.specs.Outline.{is_package_role, name_of as name_of_entry};
 ghost use Rattle.xmi_read.specs.Entries.{entry_of, entries_of};
 ghost use Rattle.xmi_read.specs.Targets.{stand_of, target_of, path_of as path_seen};
 
-use crate::numbers::{is_number, number};
+use crate::file::File;
 use crate::outline::Entry;
-use crate::references::{Path, fragment, path_of};
-use crate::role::{is_class, is_classifier, is_enum, is_package, name_of};
+use crate::references::{fragment, path_of};
+use crate::role::{is_class, is_enum, is_package, name_of};
 use doc_text::tree::Element;
 
 /// A class by its number, an enumeration by its number, or a data type of the file's own.
@@ -28,16 +28,6 @@ pub(crate) struct Stand<'a> {
     pub enums: usize,
 }
 
-// Whether a path names this package, or any.
-fn is_holder(path: &Path<'_>, place: usize, name: &str) -> bool
-    ensures { result ≡ is_holder_of (path_seen path.now) place name.now }
-{
-    let any: &[u8] = &[];
-    path.holder == any
-        || (is_number(path.holder) && number(path.holder) == place as u128)
-        || path.holder == name.as_bytes()
-}
-
 /// A count, and one more where it is so.
 pub(crate) fn one_more(count: usize, more: bool) -> usize
     requires { count < 2 ^ 63 }
@@ -55,7 +45,8 @@ fn holder_past<'a>(stand: &Stand<'a>, entry: &Entry<'a>) -> &'a str
     stand.holder
 }
 
-fn past<'a>(stand: &Stand<'a>, entry: &Entry<'a>) -> Stand<'a>
+/// The counts past an entry.
+pub(crate) fn past<'a>(stand: &Stand<'a>, entry: &Entry<'a>) -> Stand<'a>
     requires packages { stand.now.packages < 2 ^ 63 }
     requires classes { stand.now.classes < 2 ^ 63 }
     requires enums { stand.now.enums < 2 ^ 63 }
@@ -69,15 +60,8 @@ fn past<'a>(stand: &Stand<'a>, entry: &Entry<'a>) -> Stand<'a>
     }
 }
 
-fn is_named_by(path: &Path<'_>, stand: &Stand<'_>, entry: &Entry<'_>) -> bool
-    ensures { result ≡ is_named_by_of (path_seen path.now) (stand_of stand.now) (entry_of entry.now) }
-{
-    is_classifier(entry.role)
-        && name_of(entry).as_bytes() == path.name
-        && is_holder(path, stand.packages.saturating_sub(1), stand.holder)
-}
-
-fn target_here<'a>(stand: &Stand<'_>, entry: &Entry<'a>) -> Target<'a>
+/// What a reference to the classifier names.
+pub(crate) fn target_here<'a>(stand: &Stand<'_>, entry: &Entry<'a>) -> Target<'a>
     ensures { target_of result ≡ target_here_of (stand_of stand.now) (entry_of entry.now) }
 {
     if is_class(entry.role) {
@@ -89,39 +73,19 @@ fn target_here<'a>(stand: &Stand<'_>, entry: &Entry<'a>) -> Target<'a>
     Target::Data(entry.element)
 }
 
-/// The first classifier that a path names.
-pub(crate) fn find_target<'a>(file: &[Entry<'a>], path: &Path<'_>) -> Option<Target<'a>>
-    ensures { MatchOption result (target_in (entries_of file.now) (path_seen path.now) ≡ None)
-        (λ t. target_in (entries_of file.now) (path_seen path.now) ≡ Some (target_of t)) }
-{
-    let mut stand = Stand {
-        packages: 0,
-        holder: "",
-        classes: 0,
-        enums: 0,
-    };
-    for i in 0..file.len() {
-        if is_named_by(path, &stand, &file[i]) {
-            return Some(target_here(&stand, &file[i]));
-        }
-        stand = past(&stand, &file[i]);
-    }
-    None
-}
-
 /// What a word names in its file.
-pub(crate) fn local_target<'a>(file: &[Entry<'a>], word: &[u8]) -> Option<Target<'a>>
+pub(crate) fn local_target<'a>(file: &File<'a>, word: &[u8]) -> Option<Target<'a>>
     ensures { MatchOption result (local_target_in (entries_of file.now) word.now ≡ None)
         (λ t. local_target_in (entries_of file.now) word.now ≡ Some (target_of t)) }
 {
     match path_of(fragment(word)) {
-        Some(path) => find_target(file, &path),
+        Some(path) => file.target(&path),
         None => None,
     }
 }
 
 /// The class that a word names.
-pub(crate) fn class_named(file: &[Entry<'_>], word: &[u8]) -> Option<usize>
+pub(crate) fn class_named(file: &File<'_>, word: &[u8]) -> Option<usize>
     ensures { result ≡ class_named_in (entries_of file.now) word.now }
 {
     match local_target(file, word) {

@@ -10,6 +10,7 @@ ghost use Rattle.xmi_read.specs.DataTypes.{typed_of};
 ghost use Rattle.xmi_read.specs.FoundFaults.{fault_in};
 
 use crate::fault::{Fault, Kind};
+use crate::file::File;
 use crate::markup::{given, given_text};
 use crate::outline::Entry;
 use crate::references::names_file;
@@ -69,7 +70,7 @@ fn foreign_word<'a>(words: &[&'a [u8]]) -> Option<&'a [u8]>
 }
 
 // The first word that names no class.
-fn no_class<'a>(file: &[Entry<'a>], words: &[&'a [u8]]) -> Option<&'a [u8]>
+fn no_class<'a>(file: &File<'a>, words: &[&'a [u8]]) -> Option<&'a [u8]>
     ensures { option_copied result ≡ find (λ w. is_none (class_named_in (entries_of file.now) w)) (map (λ w. w.now) words.now) }
 {
     for i in 0..words.len() {
@@ -81,7 +82,7 @@ fn no_class<'a>(file: &[Entry<'a>], words: &[&'a [u8]]) -> Option<&'a [u8]>
 }
 
 /// What is wrong with the words that name supertypes.
-pub(crate) fn supers_fault<'a>(file: &[Entry<'a>], words: &[&'a [u8]]) -> Option<Fault<'a>>
+pub(crate) fn supers_fault<'a>(file: &File<'a>, words: &[&'a [u8]]) -> Option<Fault<'a>>
     ensures { fault_in result ≡ supers_fault_in (entries_of file.now) (map (λ w. w.now) words.now) }
 {
     if let Some(value) = foreign_word(words) {
@@ -102,7 +103,7 @@ pub(crate) fn supers_fault<'a>(file: &[Entry<'a>], words: &[&'a [u8]]) -> Option
 /// What is wrong with the supertypes that a class names by itself.
 pub(crate) fn class_fault<'a>(
     alloc: Global,
-    file: &[Entry<'a>],
+    file: &File<'a>,
     entry: &Entry<'a>,
 ) -> Result<Option<Fault<'a>>, AllocError>
     ensures { IfOk result (λ fault. fault_in fault ≡ supers_fault_in (entries_of file.now) (super_words (entry_of entry.now))) }

@@ -9,6 +9,7 @@ ghost use Rattle.xmi_read.specs.Entries.{scope_of, entry_of, entries_of};
 ghost use Rattle.xmi_read.specs.DataTypes.{typed_of};
 
 use crate::data_type::{DataType, foreign_type, local_type};
+use crate::file::File;
 use crate::markup::{given, given_text};
 use crate::outline::{Entry, Role};
 use crate::references::names_file;
@@ -82,7 +83,7 @@ fn is_foreign_data(scope: &Scope<'_>, sort: &[u8], reference: &[u8]) -> bool
     names(scope, sort, "EDataType") && names_file(reference)
 }
 
-fn by_data<'a>(file: &[Entry<'a>], text: &'a [u8], word: &[u8]) -> Typed<'a>
+fn by_data<'a>(file: &File<'a>, text: &'a [u8], word: &[u8]) -> Typed<'a>
     ensures { typed_of result ≡ by_data_of text.now (local_type_in (entries_of file.now) word.now) }
 {
     match local_type(file, word) {
@@ -91,7 +92,7 @@ fn by_data<'a>(file: &[Entry<'a>], text: &'a [u8], word: &[u8]) -> Typed<'a>
     }
 }
 
-fn by_class<'a>(file: &[Entry<'a>], text: &'a [u8], word: &[u8]) -> Typed<'a>
+fn by_class<'a>(file: &File<'a>, text: &'a [u8], word: &[u8]) -> Typed<'a>
     ensures { typed_of result ≡ by_class_of text.now (class_named_in (entries_of file.now) word.now) }
 {
     match class_named(file, word) {
@@ -100,7 +101,7 @@ fn by_class<'a>(file: &[Entry<'a>], text: &'a [u8], word: &[u8]) -> Typed<'a>
     }
 }
 
-fn attribute_child_typed<'a>(file: &[Entry<'a>], word: &'a [u8]) -> Typed<'a>
+fn attribute_child_typed<'a>(file: &File<'a>, word: &'a [u8]) -> Typed<'a>
     ensures { typed_of result ≡ attribute_child_typed_in (entries_of file.now) word.now }
 {
     if names_file(word) {
@@ -109,7 +110,7 @@ fn attribute_child_typed<'a>(file: &[Entry<'a>], word: &'a [u8]) -> Typed<'a>
     by_data(file, word, word)
 }
 
-fn reference_child_typed<'a>(file: &[Entry<'a>], word: &'a [u8]) -> Typed<'a>
+fn reference_child_typed<'a>(file: &File<'a>, word: &'a [u8]) -> Typed<'a>
     ensures { typed_of result ≡ reference_child_typed_in (entries_of file.now) word.now }
 {
     if names_file(word) {
@@ -119,7 +120,7 @@ fn reference_child_typed<'a>(file: &[Entry<'a>], word: &'a [u8]) -> Typed<'a>
 }
 
 /// The type that a child of a feature names.
-pub(crate) fn child_typed<'a>(role: Role, file: &[Entry<'a>], word: &'a [u8]) -> Typed<'a>
+pub(crate) fn child_typed<'a>(role: Role, file: &File<'a>, word: &'a [u8]) -> Typed<'a>
     ensures { typed_of result ≡ child_typed_in role (entries_of file.now) word.now }
 {
     match role {
@@ -128,7 +129,7 @@ pub(crate) fn child_typed<'a>(role: Role, file: &[Entry<'a>], word: &'a [u8]) ->
     }
 }
 
-fn attribute_word_typed<'a>(file: &[Entry<'a>], text: &'a [u8], word: &'a [u8]) -> Typed<'a>
+fn attribute_word_typed<'a>(file: &File<'a>, text: &'a [u8], word: &'a [u8]) -> Typed<'a>
     ensures { (scope : List Prefix) → typed_of result ≡ attribute_typed_in (entries_of file.now) scope text.now (word.now ∷ []) }
 {
     if names_file(word) {
@@ -139,7 +140,7 @@ fn attribute_word_typed<'a>(file: &[Entry<'a>], text: &'a [u8], word: &'a [u8]) 
 
 // The type that the words of an attribute's `eType` name.
 fn attribute_typed<'a>(
-    file: &[Entry<'a>],
+    file: &File<'a>,
     scope: &Scope<'_>,
     text: &'a [u8],
     words: &[&'a [u8]],
@@ -159,7 +160,7 @@ fn attribute_typed<'a>(
     }
 }
 
-fn reference_word_typed<'a>(file: &[Entry<'a>], text: &'a [u8], word: &'a [u8]) -> Typed<'a>
+fn reference_word_typed<'a>(file: &File<'a>, text: &'a [u8], word: &'a [u8]) -> Typed<'a>
     ensures { (scope : List Prefix) → typed_of result ≡ reference_typed_in (entries_of file.now) scope text.now (word.now ∷ []) }
 {
     if names_file(word) {
@@ -170,7 +171,7 @@ fn reference_word_typed<'a>(file: &[Entry<'a>], text: &'a [u8], word: &'a [u8]) 
 
 // The type that the words of a reference's `eType` name.
 fn reference_typed<'a>(
-    file: &[Entry<'a>],
+    file: &File<'a>,
     scope: &Scope<'_>,
     text: &'a [u8],
     words: &[&'a [u8]],
@@ -192,7 +193,7 @@ fn reference_typed<'a>(
 
 fn text_typed<'a>(
     alloc: Global,
-    file: &[Entry<'a>],
+    file: &File<'a>,
     entry: &Entry<'a>,
     text: &'a [u8],
 ) -> Result<Typed<'a>, AllocError>
@@ -208,7 +209,7 @@ fn text_typed<'a>(
 /// The type of a feature, behind which these stand.
 pub(crate) fn type_of<'a>(
     alloc: Global,
-    file: &[Entry<'a>],
+    file: &File<'a>,
     entry: &Entry<'a>,
     behind: &[Entry<'a>],
 ) -> Result<Typed<'a>, AllocError>
@@ -220,7 +221,7 @@ pub(crate) fn type_of<'a>(
     }
 }
 
-fn child_or_untyped<'a>(file: &[Entry<'a>], role: Role, word: Option<&'a str>) -> Typed<'a>
+fn child_or_untyped<'a>(file: &File<'a>, role: Role, word: Option<&'a str>) -> Typed<'a>
     ensures { typed_of result ≡ option_map_or (child_typed_in role (entries_of file.now)) (option_copied word.entry) (Untyped []) }
 {
     match word {

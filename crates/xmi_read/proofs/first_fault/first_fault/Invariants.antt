@@ -2,12 +2,14 @@ use Rattle.std.proofs.Common.{◌≡◌, ◌≤◌, take, drop}
 use Rattle.xmi_read.specs.Faults.{fault_from, first_fault}
 use Rattle.xmi_read.specs.Entries.{entries_of}
 use Rattle.xmi_read.specs.Tables.{AreCounted}
+use Rattle.xmi_read.specs.Seen.{AreSeen}
 use Rattle.xmi_read.proofs.first_fault.first_fault.Given as goal
 
 abbrev pub invariant-loop-i : goal.invariant-loop-i
 invariant-loop-i l = record {
-  told : fault_from (entries_of l.file) (entries_of (take l.i l.file)) (entries_of (drop l.i l.file)) ≡ first_fault (entries_of l.file);
-  counts : AreCounted (entries_of l.file) l.counts (entries_of (take l.i l.file));
+  told : fault_from (entries_of l.file) (entries_of (take l.i l.entries)) (entries_of (drop l.i l.entries)) ≡ first_fault (entries_of l.file);
+  counts : AreCounted (entries_of l.file) l.counts (entries_of (take l.i l.entries));
+  seen : AreSeen (entries_of (take l.i l.entries)) l.seen;
   classes : l.counts.classes ≤ l.i;
   enums : l.counts.enums ≤ l.i;
   features : l.counts.features ≤ l.i;

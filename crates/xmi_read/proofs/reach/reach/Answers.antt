@@ -1,4 +1,4 @@
-use Rattle.std.proofs.Common.{◌≡◌, ℕ, ◌<◌, ◌≤◌, List, [], length, get_or, sym, ap, ◌∙◌, subst, eqb, arith}
+use Rattle.std.proofs.Common.{ℕ, ◌<◌, ◌≤◌, List, length, get_or, sym, ap, ◌∙◌, subst, eqb, arith}
 use Rattle.indexmap.specs.IndexSet.{insert_all}
 use Rattle.xmi_read.proofs.Reaching.{walk_begin, walk_step, walk_end, walk_short, walk_inside}
 use Rattle.xmi_read.proofs.reach.reach.Goals as goal

@@ -11,10 +11,10 @@ use Rattle.xmi_read.proofs.read_metamodel.read_metamodel.Goals as goal
 
 pub refusal_of-requires : goal.refusal_of-requires
 refusal_of-requires c =
-    value_is_xml (entries_of c.as_slice-file.result.now) c.know_texts.ensures (fault_of c.in-Some.found.fault, c.in-Some.found.place) (sym c.in_ok-found.ensures ∙ ap told c.in-Some.is)
+    value_is_xml (entries_of c.in_ok-file.file) c.in_ok-file.ensures.texts (fault_of c.in-Some.found.fault, c.in-Some.found.place) (sym c.in_ok-found.ensures ∙ ap told c.in-Some.is)
 
 pub metamodel_of-requires-clause-valid : goal.metamodel_of-requires-clause-valid
 metamodel_of-requires-clause-valid c =
-    let same : entries_of c.as_slice-file.result.now ≡ outline c.args.doc.now = ap entries_of c.as_slice-file.ensures.value ∙ c.in_ok-entries.ensures in
+    let same : entries_of c.in_ok-file.file ≡ outline c.args.doc.now = c.in_ok-file.ensures.outline in
     subst (λ l. IsMetamodel (parts_of l)) (sym same)
     (outline_valid c.args.doc.now (ap first_fault (sym same) ∙ sym c.in_ok-found.ensures ∙ ap told c.in-None.is))

@@ -1,54 +1,76 @@
-use Rattle.std.proofs.Common.{◌≡◌, ℕ, ◌+◌, List, [], ◌∷◌, map, drop, refl, sym, ap, ◌∙◌}
-use Rattle.std.specs.Prelude.{Bool, true, false, not, ◌&&◌, bytes_eq}
-use Rattle.std.proofs.Math.Bool.{or-false}
-use Rattle.std.proofs.lemmas.Bool.{not-true, not-false}
-use Rattle.std.proofs.lemmas.List.{drop_more}
-use Rattle.xmi_read.specs.Outline.{name_of}
+use Rattle.std.proofs.Common.{◌≡◌, ℕ, ◌+◌, ◌-◌, ◌≤◌, [], ◌<◌, get_or, length, map, take, drop, inr, eqb, refl, sym, ap, ◌∙◌, subst, arith}
+use Rattle.std.specs.Prelude.{true, false, max, ◌||◌}
+use Rattle.std.specs.List.{list_any}
+use Rattle.std.specs.List.Sorted.{IsNonDecreasing}
+use Rattle.std.specs.Option.{option_copied}
+use Rattle.std.proofs.lemmas.List.{take_rest, get_or_default}
 use Rattle.xmi_read.specs.Rows.{conforms, twice_from}
-use Rattle.xmi_read.specs.Tables.{feature_row_of, feature_rows_of}
-use Rattle.xmi_read.proofs.SeenNames.{empty_test, step_over, step_again, step_new}
+use Rattle.xmi_read.specs.Tables.{feature_rows_of}
+use Rattle.xmi_read.proofs.Reaching.{contained}
+use Rattle.xmi_read.proofs.SeenRows.{from, from_zero, AreLeft, left_next, class_step, none_next, none_left, some_or, none_or, or_false}
 use Rattle.xmi_read.proofs.repeated.twice_seen.Goals as goal
-use Rattle.xmi_read.proofs.repeated.twice_seen.Goals.{then-contains+then-not-is_empty+in_ok-is_new+else-not-is_new, else-contains, else-contains-via-then-contains+else-not-is_empty, else-contains-via-else-contains}
 
-pub returns-then-not-is_new : goal.returns-then-not-is_new
-returns-then-not-is_new c =
-    let supers = c.args.supers.now in
-    let row = feature_row_of c.index-features-i.result in
-    let rest = feature_rows_of (drop (c.loop-i.i + 1) c.args.features.now) in
-    let cut : feature_rows_of (drop c.loop-i.i c.args.features.now) ≡ row ∷ rest =
-    ap feature_rows_of (drop_more c.args.features.now c.loop-i.i c.index-features-i.result c.loop-i-test.true) ∙ ap (λ x. feature_row_of x ∷ rest) (sym c.index-features-i.is) in
-    let seen : c.contains.result ≡ conforms supers c.args.class row.owner = c.contains.ensures ∙ c.in_ok-reached.ensures row.owner ∙ or-false (conforms supers c.args.class row.owner) in
-    let empty = c.is_empty.ensures ∙ empty_test c.name_of-name.result.now ∙ ap (λ n. bytes_eq n []) c.name_of-name.ensures in
-    let passes = ap (λ b. b && not c.is_empty.result) c.if-contains.true ∙ ap not c.if-not-is_empty.true in
-    sym (step_again supers c.args.class c.loop-i.seen.keys row rest c.name_of-name.result c.contains.result c.is_empty.result seen empty passes c.name_of-name.ensures
-    (not-false _ (sym c.in_ok-is_new.ensures.added ∙ c.if-not-is_new.true)))
-    ∙ sym (ap (twice_from supers c.args.class (map (λ k. k.now) c.loop-i.seen.keys)) cut)
-    ∙ c.loop-i.invariant
+pub loop-k-init : goal.loop-k-init
+loop-k-init c = record {
+  told = ap (λ ks. twice_from c.args.supers.now c.args.class (map (λ k. k.now) ks) (from 0 (feature_rows_of c.args.features.now))) c.new-seen.ensures.empty
+      ∙ ap (twice_from c.args.supers.now c.args.class []) (from_zero (feature_rows_of c.args.features.now));
+  left = λ d h. inr (ap (list_any (eqb d)) c.as_slice-list.ensures.value ∙ c.in_ok-classes.ensures.same d ∙ ap (list_any (eqb d)) c.as_slice.ensures.keys ∙ c.in_ok-reached.ensures d ∙ ap (λ b. b || false) h);
+}
 
-pub loop-i-preserved : goal.loop-i-preserved
-loop-i-preserved c =
+pub returns-then-is_some : goal.returns-then-is_some
+returns-then-is_some c =
     let supers = c.args.supers.now in
-    let row = feature_row_of c.index-features-i.result in
-    let rest = feature_rows_of (drop (c.loop-i.i + 1) c.args.features.now) in
-    let cut : feature_rows_of (drop c.loop-i.i c.args.features.now) ≡ row ∷ rest =
-    ap feature_rows_of (drop_more c.args.features.now c.loop-i.i c.index-features-i.result c.loop-i-test.true) ∙ ap (λ x. feature_row_of x ∷ rest) (sym c.index-features-i.is) in
-    let told : twice_from supers c.args.class (map (λ k. k.now) c.loop-i.seen.keys) (row ∷ rest) ≡ twice_from supers c.args.class [] (feature_rows_of c.args.features.now) =
-    sym (ap (twice_from supers c.args.class (map (λ k. k.now) c.loop-i.seen.keys)) cut) ∙ c.loop-i.invariant in
-    let seen : c.contains.result ≡ conforms supers c.args.class row.owner = c.contains.ensures ∙ c.in_ok-reached.ensures row.owner ∙ or-false (conforms supers c.args.class row.owner) in
-    elim c.if-contains.branch [
-      | then-contains+then-not-is_empty+in_ok-is_new+else-not-is_new w ↦
-          let empty = w.is_empty.ensures ∙ empty_test c.name_of-name.result.now ∙ ap (λ n. bytes_eq n []) c.name_of-name.ensures in
-          let passes = ap (λ b. b && not w.is_empty.result) w.if-contains.true ∙ ap not w.if-not-is_empty.true in
-          rw (w.seen-is) (sym (step_new supers c.args.class c.loop-i.seen.keys _ row rest c.name_of-name.result c.contains.result w.is_empty.result seen empty passes c.name_of-name.ensures
-          (not-true _ (sym w.in_ok-is_new.ensures.added ∙ w.if-not-is_new.false)) w.in_ok-is_new.ensures.keys)
-          ∙ told)
-      | else-contains w ↦ elim w.else-contains.branch [
-        | else-contains-via-then-contains+else-not-is_empty v ↦
-            let empty = v.is_empty.ensures ∙ empty_test c.name_of-name.result.now ∙ ap (λ n. bytes_eq n []) c.name_of-name.ensures in
-            let fails = ap (λ b. b && not v.is_empty.result) v.if-contains.true ∙ ap not v.if-not-is_empty.false in
-            rw (w.seen-is) (sym (step_over supers c.args.class c.loop-i.seen.keys row rest c.contains.result v.is_empty.result seen empty fails) ∙ told)
-        | else-contains-via-else-contains v ↦
-            let empty = bytes_eq (name_of row.entry) [] in
-            rw (w.seen-is) (sym (step_over supers c.args.class c.loop-i.seen.keys row rest c.contains.result empty seen refl (ap (λ b. b && not empty) v.if-contains.false)) ∙ told)
-      ]
-    ]
+    let features = c.args.features.now in
+    let rows = feature_rows_of features in
+    let list = c.as_slice-list.result.now in
+    let rising = subst IsNonDecreasing (sym c.as_slice-list.ensures.value) c.in_ok-classes.ensures.rising in
+    let old = map (λ k. k.now) c.loop-k.seen.keys in
+    let new = map (λ k. k.now) c.twice_own.new.seen.keys in
+    let owner : ℕ = get_or list c.loop-k.k 0 in
+    let inside : c.loop-k.k < length list = c.loop-k-test.true in
+    let cut : feature_rows_of (take (length features - c.begin_of-begin.result) (drop c.begin_of-begin.result features)) ≡ from (max c.loop-k.next owner) rows =
+    ap feature_rows_of (take_rest features c.begin_of-begin.result) ∙ c.begin_of-begin.ensures.begin ∙ ap (λ n. from n rows) c.later-start.ensures in
+    let among : list_any (eqb owner) list ≡ true = contained list owner (c.loop-k.k, inside, get_or_default list c.loop-k.k owner 0 inside) in
+    let conforming : conforms supers c.args.class owner ≡ true =
+    or_false (conforms supers c.args.class owner) ∙ sym (c.in_ok-reached.ensures owner) ∙ ap (list_any (eqb owner)) (sym c.as_slice.ensures.keys) ∙ sym (c.in_ok-classes.ensures.same owner) ∙ ap (list_any (eqb owner)) (sym c.as_slice-list.ensures.value) ∙ among in
+    let step = class_step supers c.args.class list rising rows _ old new (option_copied c.in_ok-name.name) c.loop-k.next c.loop-k.k owner c.requires.rising inside refl c.loop-k.invariant.left cut
+    (c.in_ok-name.ensures supers c.args.class conforming) in
+    some_or c.in_ok-name.name (twice_from supers c.args.class new (from (max c.loop-k.next (owner + 1)) rows)) (sym c.is_some.ensures ∙ c.if-is_some.true)
+    ∙ sym step
+    ∙ c.loop-k.invariant.told
+
+pub loop-k-preserved : goal.loop-k-preserved
+loop-k-preserved c =
+    let supers = c.args.supers.now in
+    let features = c.args.features.now in
+    let rows = feature_rows_of features in
+    let list = c.as_slice-list.result.now in
+    let rising = subst IsNonDecreasing (sym c.as_slice-list.ensures.value) c.in_ok-classes.ensures.rising in
+    let old = map (λ k. k.now) c.loop-k.seen.keys in
+    let new = map (λ k. k.now) c.twice_own.new.seen.keys in
+    let owner : ℕ = get_or list c.loop-k.k 0 in
+    let inside : c.loop-k.k < length list = c.loop-k-test.true in
+    let cut : feature_rows_of (take (length features - c.begin_of-begin.result) (drop c.begin_of-begin.result features)) ≡ from (max c.loop-k.next owner) rows =
+    ap feature_rows_of (take_rest features c.begin_of-begin.result) ∙ c.begin_of-begin.ensures.begin ∙ ap (λ n. from n rows) c.later-start.ensures in
+    let among : list_any (eqb owner) list ≡ true = contained list owner (c.loop-k.k, inside, get_or_default list c.loop-k.k owner 0 inside) in
+    let conforming : conforms supers c.args.class owner ≡ true =
+    or_false (conforms supers c.args.class owner) ∙ sym (c.in_ok-reached.ensures owner) ∙ ap (list_any (eqb owner)) (sym c.as_slice.ensures.keys) ∙ sym (c.in_ok-classes.ensures.same owner) ∙ ap (list_any (eqb owner)) (sym c.as_slice-list.ensures.value) ∙ among in
+    let step = class_step supers c.args.class list rising rows _ old new (option_copied c.in_ok-name.name) c.loop-k.next c.loop-k.k owner c.requires.rising inside refl c.loop-k.invariant.left cut
+    (c.in_ok-name.ensures supers c.args.class conforming) in
+    record {
+      told = ap (λ n. twice_from supers c.args.class new (from n rows)) c.past-next.ensures
+          ∙ none_or c.in_ok-name.name (twice_from supers c.args.class new (from (max c.loop-k.next (owner + 1)) rows)) (sym c.is_some.ensures ∙ c.if-is_some.false)
+          ∙ sym step
+          ∙ c.loop-k.invariant.told;
+      left = subst (λ n. AreLeft supers c.args.class list n (c.loop-k.k + 1)) (sym c.past-next.ensures)
+          (left_next supers c.args.class list rising c.loop-k.next c.loop-k.k owner inside refl c.loop-k.invariant.left);
+    }
+
+pub returns : goal.returns
+returns c =
+    let list = c.as_slice-list.result.now in
+    let rising = subst IsNonDecreasing (sym c.as_slice-list.ensures.value) c.in_ok-classes.ensures.rising in
+    let past : length list ≤ c.loop-k.k = omega (arith, c.loop-k-test.false) in
+    sym (none_left c.args.supers.now c.args.class (feature_rows_of c.args.features.now) c.loop-k.next (map (λ k. k.now) c.loop-k.seen.keys)
+    (none_next c.args.supers.now c.args.class list rising c.loop-k.next c.loop-k.k past c.loop-k.invariant.left))
+    ∙ c.loop-k.invariant.told

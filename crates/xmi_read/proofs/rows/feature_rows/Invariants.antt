@@ -6,6 +6,6 @@ use Rattle.xmi_read.proofs.rows.feature_rows.Given as goal
 
 abbrev pub invariant-loop-i : goal.invariant-loop-i
 invariant-loop-i l = record {
-  told : feature_rows_of l.rows.items ++ feature_rows_from (entries_of l.file) l.classes (entries_of (drop l.i l.file)) ≡ feature_rows (entries_of l.file);
+  told : feature_rows_of l.rows.items ++ feature_rows_from (entries_of l.file) l.classes (entries_of (drop l.i l.entries)) ≡ feature_rows (entries_of l.file);
   classes : l.classes ≤ l.i;
 }

@@ -1,0 +1,122 @@
+// The features that classes declare, by class and name.
+ghost use Rattle.std.specs.Prelude.{◌≡◌, ◌++◌, ◌∷◌, [], IfOk, OnOk, map, option_map, slice_get};
+ghost use Rattle.xmi_read.specs.References.{own_from, then_};
+ghost use Rattle.xmi_read.specs.Outline.{name_of as name_of_entry};
+ghost use Rattle.xmi_read.specs.Entries.{entry_of, entries_of};
+ghost use Rattle.xmi_read.specs.Targets.{own_of};
+ghost use Rattle.xmi_read.specs.Keys.{keys_of};
+ghost use Rattle.xmi_read.specs.Owns.{own_here as own_here_of, own_row, owns_of, row_key, row_own};
+ghost use Rattle.xmi_read.specs.FileTables.{AreOwns};
+
+use crate::keys::{Key, first_place, first_places};
+use crate::outline::Entry;
+use crate::own::Own;
+use crate::role::{is_class, is_feature, is_skipped, name_of};
+use crate::target::one_more;
+use std::alloc::{AllocError, Global};
+use std::collections::HashMap;
+
+/// The features that classes declare, in their order, and where each name stands first in its class.
+#[derive(Drop)]
+pub(crate) struct Owns<'a> {
+    pub places: HashMap<Key<'a>, usize>,
+    pub owns: Vec<Own<'a>>,
+}
+
+// A feature before which so many stand, or one that is left out.
+fn own_here<'a>(features: usize, entry: &Entry<'a>) -> Option<Own<'a>>
+    ensures { option_map own_of result ≡ own_here_of features (entry_of entry.now) }
+{
+    if is_feature(entry.role) {
+        return Some(Own::Kept(features, *entry));
+    }
+    if is_skipped(entry.role) {
+        return Some(Own::Skips);
+    }
+    None
+}
+
+fn push_row<'a>(
+    keys: &mut Vec<Key<'a>>,
+    owns: &mut Vec<Own<'a>>,
+    class: usize,
+    entry: &Entry<'a>,
+    own: Own<'a>,
+) -> Result<(), AllocError>
+    ensures keys { OnOk result (keys_of keys.new.items ≡ keys_of keys.old.items ++ ((class, name_of_entry (entry_of entry.now)) ∷ [])) }
+    ensures owns { OnOk result (map own_of owns.new.items ≡ map own_of owns.old.items ++ (own_of own.entry ∷ [])) }
+{
+    keys.push(Key {
+        number: class,
+        text: name_of(entry).as_bytes(),
+    })?;
+    owns.push(own)?;
+    Ok(())
+}
+
+// Adds what the last of so many classes declares here.
+fn push_own<'a>(
+    keys: &mut Vec<Key<'a>>,
+    owns: &mut Vec<Own<'a>>,
+    classes: usize,
+    features: usize,
+    entry: &Entry<'a>,
+) -> Result<(), AllocError>
+    ensures keys { OnOk result (keys_of keys.new.items ≡ keys_of keys.old.items ++ map row_key (own_row classes features (entry_of entry.now))) }
+    ensures owns { OnOk result (map own_of owns.new.items ≡ map own_of owns.old.items ++ map row_own (own_row classes features (entry_of entry.now))) }
+{
+    if classes == 0 {
+        return Ok(());
+    }
+    match own_here(features, entry) {
+        Some(own) => push_row(keys, owns, classes - 1, entry, own),
+        None => Ok(()),
+    }
+}
+
+/// What the classes of a file declare.
+pub(crate) fn owns_in<'a>(alloc: Global, entries: &[Entry<'a>]) -> Result<Owns<'a>, AllocError>
+    ensures { IfOk result (λ t. AreOwns (entries_of entries.now) t) }
+{
+    let mut keys = Vec::new(alloc);
+    let mut owns = Vec::new(alloc);
+    let mut classes = 0;
+    let mut features = 0;
+    for i in 0..entries.len() {
+        let entry = &entries[i];
+        push_own(&mut keys, &mut owns, classes, features, entry)?;
+        classes = one_more(classes, is_class(entry.role));
+        features = one_more(features, is_feature(entry.role));
+    }
+    let places = first_places(alloc, &keys)?;
+    Ok(Owns { places, owns })
+}
+
+// What stands at a place.
+fn own_at<'a>(owns: &[Own<'a>], place: Option<usize>) -> Option<Own<'a>>
+    ensures { option_map own_of result ≡ then_ place (slice_get (map own_of owns.now)) }
+{
+    match place {
+        Some(place) => {
+            if place < owns.len() {
+                return Some(owns[place]);
+            }
+            None
+        }
+        None => None,
+    }
+}
+
+/// A class's own feature of this name.
+pub(crate) fn own_named<'a>(
+    entries: &[Entry<'a>],
+    table: &Owns<'a>,
+    class: usize,
+    name: &[u8],
+) -> Option<Own<'a>>
+    requires { AreOwns (entries_of entries.now) table.now }
+    ensures { option_map own_of result ≡ own_from class name.now 0 0 (entries_of entries.now) }
+{
+    let place = first_place(&table.places, class, name);
+    own_at(&table.owns, place)
+}
