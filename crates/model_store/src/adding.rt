@@ -218,6 +218,7 @@ fn finish(model: &mut Draft, o: ObjId, f: FeatId, values: &[Cellv]) -> Result<()
 pub(crate) struct Rewired {
     pub store: Store,
     pub holders: Vec<Option<(ObjId, FeatId)>>,
+    pub places: Vec<usize>,
     pub done: Result<(), AllocError>,
 }
 
@@ -225,6 +226,7 @@ pub(crate) struct Rewired {
 pub(crate) fn write_reference(
     store: Store,
     holders: Vec<Option<(ObjId, FeatId)>>,
+    places: Vec<usize>,
     o: ObjId,
     f: FeatId,
     values: &[Cellv],
@@ -237,21 +239,28 @@ pub(crate) fn write_reference(
     ensures err { OnErr result.done (result.store ≡ store) }
     ensures ready { IsReady result.store result.holders.items }
 {
-    let mut draft = Draft::new(store, holders);
+    let mut draft = Draft::new(store, holders, places);
     match finish(&mut draft, o, f, values) {
         Ok(()) => {
-            let Draft { store, holders, .. } = draft;
+            let Draft {
+                store,
+                holders,
+                places,
+                ..
+            } = draft;
             Rewired {
                 store,
                 holders,
+                places,
                 done: Ok(()),
             }
         }
         Err(refused) => {
-            let (store, holders) = draft.roll_back();
+            let (store, holders, places) = draft.roll_back();
             Rewired {
                 store,
                 holders,
+                places,
                 done: Err(refused),
             }
         }

@@ -7,6 +7,7 @@ ghost use Rattle.model_store.specs.Drafts.{current, restored, undo, undone, sett
 ghost use Rattle.model_store.specs.HolderTables.{AreHolders};
 ghost use Rattle.model_store.specs.Writes.{freed, taken_in};
 
+use crate::guesses::guess;
 use crate::parts::{Cellv, Slot};
 use crate::roots::RootStep;
 use crate::store::Store;
@@ -29,6 +30,8 @@ pub(crate) struct Draft {
     pub store: Store,
     // for each number the container of its object and the feature, where it has one
     pub holders: Vec<Option<(ObjId, FeatId)>>,
+    // and perhaps the place in the slot
+    pub places: Vec<usize>,
     // what the roots go through
     pub pending: Vec<RootStep>,
     // what the slots went through
@@ -68,7 +71,11 @@ fn hold(holders: &mut [Option<(ObjId, FeatId)>], p: ObjId, at: Option<(ObjId, Fe
 
 impl Draft {
     // Nothing is written yet.
-    pub(crate) fn new(store: Store, holders: Vec<Option<(ObjId, FeatId)>>) -> Draft
+    pub(crate) fn new(
+        store: Store,
+        holders: Vec<Option<(ObjId, FeatId)>>,
+        places: Vec<usize>,
+    ) -> Draft
         ensures store { current result ≡ store }
         ensures holders { result.holders.items ≡ holders.items }
         ensures back { restored result ≡ (store, length holders.items) }
@@ -77,6 +84,7 @@ impl Draft {
         Draft {
             store,
             holders,
+            places,
             pending: Vec::new(alloc),
             journal: Vec::new(alloc),
         }
@@ -158,6 +166,8 @@ impl Draft {
     {
         self.pending.push(RootStep::TakenIn(p))?;
         hold(&mut self.holders, p, Some(at));
+        let place = self.store.cells(at.0, at.1).len().saturating_sub(1);
+        guess(&mut self.places, p, place);
         Ok(())
     }
 
@@ -171,7 +181,7 @@ impl Draft {
     }
 
     // The model as it was, and its table.
-    pub(crate) fn roll_back(self) -> (Store, Vec<Option<(ObjId, FeatId)>>)
+    pub(crate) fn roll_back(self) -> (Store, Vec<Option<(ObjId, FeatId)>>, Vec<usize>)
         requires { length self.holders.items ≡ length (restored self).0.objects }
         ensures store { result.0 ≡ (restored self).0 }
         ensures holders { AreHolders result.0 result.1.items }
@@ -179,11 +189,12 @@ impl Draft {
         let Draft {
             mut store,
             mut holders,
+            places,
             journal,
             ..
         } = self;
         undo_all(&mut store, journal);
         store.note_holders(&mut holders);
-        (store, holders)
+        (store, holders, places)
     }
 }

@@ -7,6 +7,7 @@ mod containing;
 mod copies;
 mod draft;
 mod fragments;
+mod guesses;
 mod held;
 pub mod laws;
 mod lookups;

@@ -9,6 +9,7 @@ ghost use Rattle.model_store.specs.Valid.{Fits, HasSlot, IsConcrete, IsModel};
 ghost use Rattle.model_store.specs.Writes.{write, Creates, Writes};
 
 use crate::adding::{Rewired, write_reference};
+use crate::guesses::{guess_all, guess_more};
 use crate::lookups::refers;
 use crate::parts::{Cellv, Object, Slot};
 use crate::refusal::StoreRefusal;
@@ -24,6 +25,8 @@ pub struct Model {
     store: Store,
     // for each number the container of its object and the feature, where it has one
     holders: Vec<Option<(ObjId, FeatId)>>,
+    // and perhaps its place in the slot
+    places: Vec<usize>,
 }
 
 impl std::marker::Model for Model {
@@ -46,7 +49,12 @@ fn made(alloc: Global, store: Store) -> Result<Model, AllocError>
     let _ = store.meta().parts();
     let mut holders = vec![in alloc; None; store.given() as usize]?;
     store.note_holders(&mut holders);
-    Ok(Model { store, holders })
+    let places = guess_all(&store)?;
+    Ok(Model {
+        store,
+        holders,
+        places,
+    })
 }
 
 impl Model {
@@ -87,6 +95,9 @@ impl Model {
         requires concrete { IsConcrete self.old.meta class }
         ensures { Creates self.old class result self.new }
     {
+        if guess_more(&mut self.places).is_err() {
+            return Err(StoreRefusal::Memory);
+        }
         if self.holders.push(None).is_err() {
             return Err(StoreRefusal::Memory);
         }
@@ -143,6 +154,14 @@ impl Model {
         *self.holders.get(p.0 as usize)?
     }
 
+    // Where an object perhaps stands in the slot that contains it.
+    pub(crate) fn guess(&self, p: ObjId) -> usize {
+        match self.places.get(p.0 as usize) {
+            Some(place) => *place,
+            None => 0,
+        }
+    }
+
     /// The object that contains another, and none for a root and where there is no such object.
     pub fn container(&self, p: ObjId) -> Option<ObjId>
         ensures { result ≡ container self.now p }
@@ -191,13 +210,16 @@ impl Model {
         let none = Store::new(alloc, self.store.meta().clone()?)?;
         let store = std::mem::replace(&mut self.store, none);
         let holders = std::mem::replace(&mut self.holders, Vec::new(alloc));
+        let places = std::mem::replace(&mut self.places, Vec::new(alloc));
         let Rewired {
             store,
             holders,
+            places,
             done,
-        } = write_reference(store, holders, o, f, values);
+        } = write_reference(store, holders, places, o, f, values);
         self.store = store;
         self.holders = holders;
+        self.places = places;
         done?;
         Ok(())
     }
@@ -209,6 +231,7 @@ impl Model {
         Ok(Model {
             store: self.store.copy()?,
             holders: Vec::from_slice(self.store.alloc(), &self.holders)?,
+            places: Vec::from_slice(self.store.alloc(), &self.places)?,
         })
     }
 

@@ -9,6 +9,7 @@ ghost use Rattle.model_store.specs.Writes.{cut, cut_back, freed, taken_in, free_
 
 use crate::copies::without;
 use crate::draft::Draft;
+use crate::guesses::guess_slot;
 use crate::lookups::{contains, opposite};
 use atl_base::numbers::{FeatId, ObjId};
 use std::alloc::AllocError;
@@ -21,6 +22,8 @@ fn cut(model: &mut Draft, o: ObjId, f: FeatId, q: ObjId) -> Result<(), AllocErro
     ensures back { restored model.new ≡ restored model.old }
 {
     let rest = without(model.alloc(), q, model.cells(o, f))?;
+    let content = contains(model.meta(), f);
+    guess_slot(&mut model.places, content, rest.as_slice());
     model.replace(o, f, rest)
 }
 

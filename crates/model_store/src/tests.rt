@@ -307,6 +307,24 @@ fn paths_lead_from_a_root(rt: HostRuntime) -> Result<(), Fail> {
 }
 
 #[test]
+fn paths_count_many_children(rt: HostRuntime) -> Result<(), Fail> {
+    let alloc = rt.alloc();
+    let mut model = empty(alloc)?;
+    let a = make(&mut model, 0)?;
+    for _ in 0..40 {
+        let kid = make(&mut model, 1)?;
+        model.write(a, KIDS, &objects(alloc, &[kid])?)?;
+    }
+    assert_eq!(rt; path(&model, ObjId(40))?.as_str(), "//@kids.39");
+    // one leaves, and those behind it move up
+    model.write(ObjId(7), UP, &objects(alloc, &[])?)?;
+    assert_eq!(rt; path(&model, ObjId(6))?.as_str(), "/0/@kids.5");
+    assert_eq!(rt; path(&model, ObjId(40))?.as_str(), "/0/@kids.38");
+    assert_eq!(rt; path(&model, ObjId(7))?.as_str(), "/1");
+    Ok(())
+}
+
+#[test]
 fn fragments_name_objects(rt: HostRuntime) -> Result<(), Fail> {
     let alloc = rt.alloc();
     let mut model = empty(alloc)?;

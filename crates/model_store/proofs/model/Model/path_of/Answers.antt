@@ -13,9 +13,8 @@ returns c =
     let top : c.in_ok-top.field-0.top ≡ top_within n m c.args.o = c.in_ok-top.ensures.top in
     let steps : reverse c.in_ok-top.field-0.steps.items ≡ steps_within n m c.args.o = c.in_ok-top.ensures.steps in
     let root : c.push_root.new.text ≡ root_text m c.in_ok-top.field-0.top = c.in_ok-push_root.ensures
-    ∙ ap (λ (n : Contents). c.new-text.result ++ root_text n c.in_ok-top.field-0.top) c.store-2.ensures
     ∙ ap (λ (t : List ℕ). t ++ root_text m c.in_ok-top.field-0.top) c.new-text.ensures in
-    let text : c.push_steps.new.text ≡ c.push_root.new.text ++ flat_map (step_text m) (reverse c.in_ok-top.field-0.steps.items) = c.in_ok-push_steps.ensures ∙ ap (λ (n : Contents). c.push_root.new.text ++ flat_map (step_text n) (reverse c.in_ok-top.field-0.steps.items)) c.store-3.ensures in (
+    let text : c.push_steps.new.text ≡ c.push_root.new.text ++ flat_map (step_text m) (reverse c.in_ok-top.field-0.steps.items) = c.in_ok-push_steps.ensures in (
       search rules,
       text
           ∙ ap (λ (t : List ℕ). t ++ flat_map (step_text m) (reverse c.in_ok-top.field-0.steps.items)) (root ∙ ap (root_text m) top)
