@@ -17,9 +17,11 @@ pub(crate) fn guess(places: &mut [usize], p: ObjId, place: usize) {
     }
 }
 
-// A guess more, for a new object.
-pub(crate) fn guess_more(places: &mut Vec<usize>) -> Result<(), AllocError> {
-    places.push(0)?;
+// A guess more, for the object of this number. A refusal can have left one for it.
+pub(crate) fn guess_more(places: &mut Vec<usize>, number: usize) -> Result<(), AllocError> {
+    if places.len() <= number {
+        places.push(0)?;
+    }
     Ok(())
 }
 

@@ -95,7 +95,7 @@ impl Model {
         requires concrete { IsConcrete self.old.meta class }
         ensures { Creates self.old class result self.new }
     {
-        if guess_more(&mut self.places).is_err() {
+        if guess_more(&mut self.places, self.holders.len()).is_err() {
             return Err(StoreRefusal::Memory);
         }
         if self.holders.push(None).is_err() {
