@@ -1,8 +1,8 @@
-mod Chains
+pub mod Chains
 mod Climbing
 mod Counted
 mod Cuts
-mod Digits
+pub mod Digits
 mod Exchanges
 mod Folded
 mod Holders
@@ -14,7 +14,7 @@ mod Numbers
 mod Noting
 mod Pairing
 mod PathDigits
-mod PathRoots
+pub mod PathRoots
 mod PathRows
 mod PathSteps
 mod PathsBack
@@ -23,7 +23,7 @@ mod Places
 mod Rising
 mod SameHolders
 mod Trees
-mod Updates
+pub mod Updates
 pub mod Slots
 pub mod Thinned
 pub mod Holding

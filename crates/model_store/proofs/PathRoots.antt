@@ -51,7 +51,7 @@ module _ (meta : Parts) (p : ObjId) where
   among_contents (g ∷ fs) (cells ∷ slots) (suc k) f l e inside h =
       Contains-append_right (if contains meta g then objects_of cells else []) (contents_in meta fs slots) p (among_contents fs slots k f (omega (arith, l)) e inside h)
 
-content_of : (m : Contents) (r p : ObjId) (f : FeatId) → contains m.meta f ≡ true → Refers m r f p → HasContent m r.0 p.0
+pub content_of : (m : Contents) (r p : ObjId) (f : FeatId) → contains m.meta f ≡ true → Refers m r f p → HasContent m r.0 p.0
 content_of m r p f inside h =
     let x = referred m r p f h in
     subst (λ y. Contains (option_map_or (contents_of m.meta) y []) p) (sym x.there)

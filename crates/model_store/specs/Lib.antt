@@ -5,5 +5,6 @@ pub mod HolderTables
 pub mod Laws
 pub mod Order
 pub mod Paths
+pub mod Texts
 pub mod Valid
 pub mod Writes

@@ -17,8 +17,8 @@ use ecore_meta::parts::{FeatKind, Literal};
 use sqlite_items::Items;
 use std::alloc::{AllocError, Global};
 
-// Whether two values are the same.
-fn same_value(a: &Cellv, b: &Cellv) -> bool
+/// Whether two values are the same.
+pub fn same_value(a: &Cellv, b: &Cellv) -> bool
     ensures { result ≡ same_value a.now b.now }
 {
     match (a, b) {
@@ -134,8 +134,8 @@ fn single(alloc: Global, value: Cellv) -> Result<Slot, AllocError>
     Ok(Items::from_vec(slot))
 }
 
-// What a slot holds that nothing was written to.
-fn initial(alloc: Global, meta: &Metamodel, f: FeatId) -> Result<Slot, AllocError>
+/// What a slot holds that nothing was written to.
+pub fn initial(alloc: Global, meta: &Metamodel, f: FeatId) -> Result<Slot, AllocError>
     ensures { IfOk result (λ slot. slot ≡ initial meta.now f) }
 {
     let Some(feature) = feature(meta, f) else {

@@ -8,9 +8,9 @@ use atl_base::numbers::ClassId;
 use sqlite_items::Items;
 use std::alloc::{AllocError, Global};
 
-// Contracts see it as the object.
+/// An object of a model. Contracts see it as its class and its slots.
 #[derive(Drop)]
-pub(crate) struct Held {
+pub struct Held {
     class: ClassId,
     slots: Vec<Slot>,
 }
@@ -53,13 +53,15 @@ impl Held {
         })
     }
 
-    pub(crate) fn class(&self) -> ClassId
+    /// The object's class.
+    pub fn class(&self) -> ClassId
         ensures { result ≡ self.now.class }
     {
         self.class
     }
 
-    pub(crate) fn slots(&self) -> &[Slot]
+    /// A slot for each feature that is seen in the class, in the order of the features.
+    pub fn slots(&self) -> &[Slot]
         ensures { result.now ≡ self.now.slots }
     {
         &self.slots

@@ -2,15 +2,15 @@
 #![tactic(auto)]
 
 mod adding;
-mod attributes;
+pub mod attributes;
 mod containing;
 mod copies;
 mod draft;
 mod fragments;
 mod guesses;
-mod held;
+pub mod held;
 pub mod laws;
-mod lookups;
+pub mod lookups;
 pub mod model;
 mod order;
 mod pairs;

@@ -19,8 +19,8 @@ pub(crate) fn feature(meta: &Metamodel, f: FeatId) -> Option<&Feature>
     meta.parts().features.get(f.0 as usize)
 }
 
-// Whether a feature holds several values.
-pub(crate) fn is_many(meta: &Metamodel, f: FeatId) -> bool
+/// Whether a feature holds several values.
+pub fn is_many(meta: &Metamodel, f: FeatId) -> bool
     ensures { result ≡ is_many meta.now f }
 {
     match meta.all_features().get(f.0 as usize) {
@@ -39,8 +39,8 @@ pub(crate) fn is_unique(meta: &Metamodel, f: FeatId) -> bool
     }
 }
 
-// Whether a feature is a reference.
-pub(crate) fn refers(meta: &Metamodel, f: FeatId) -> bool
+/// Whether a feature is a reference.
+pub fn refers(meta: &Metamodel, f: FeatId) -> bool
     ensures { result ≡ refers meta.now f }
 {
     match meta.all_features().get(f.0 as usize) {
@@ -56,8 +56,8 @@ pub(crate) fn is_reference(kind: FeatKind) -> bool
     matches!(kind, FeatKind::Refer { .. })
 }
 
-// Whether a feature contains what it refers to.
-pub(crate) fn contains(meta: &Metamodel, f: FeatId) -> bool
+/// Whether a feature contains what it refers to.
+pub fn contains(meta: &Metamodel, f: FeatId) -> bool
     ensures { result ≡ contains meta.now f }
 {
     match meta.all_features().get(f.0 as usize) {
@@ -69,8 +69,8 @@ pub(crate) fn contains(meta: &Metamodel, f: FeatId) -> bool
     }
 }
 
-// The reference back.
-pub(crate) fn opposite(meta: &Metamodel, f: FeatId) -> Option<FeatId>
+/// The reference back.
+pub fn opposite(meta: &Metamodel, f: FeatId) -> Option<FeatId>
     ensures { result ≡ opposite meta.now f }
 {
     match meta.all_features().get(f.0 as usize) {
@@ -82,8 +82,8 @@ pub(crate) fn opposite(meta: &Metamodel, f: FeatId) -> Option<FeatId>
     }
 }
 
-// Whether a feature is a reference to what contains the object.
-pub(crate) fn is_contained_by(meta: &Metamodel, f: FeatId) -> bool
+/// Whether a feature is a reference to what contains the object.
+pub fn is_contained_by(meta: &Metamodel, f: FeatId) -> bool
     ensures { result ≡ is_contained_by meta.now f }
 {
     match opposite(meta, f) {

@@ -1,7 +1,8 @@
 // Models: the type whose values are always models, and its calls.
 ghost use Rattle.std.specs.Prelude.{◌≡◌, ◌≤◌, ◌<◌, ◌^◌, IfOk, IfSome, OnOk, OnErr, MatchResult, [], length, Some, None, true, false, map};
 ghost use Rattle.ecore_meta.specs.Valid.{IsMetamodel};
-ghost use Rattle.model_store.specs.Contents.{class_of, container, holder, refers, refusal, slot};
+ghost use Rattle.std.specs.Option.{option_copied};
+ghost use Rattle.model_store.specs.Contents.{IsShaped, class_of, container, holder, object_at, refers, refusal, slot};
 ghost use Rattle.model_store.specs.Folds.{empty};
 ghost use Rattle.model_store.specs.Order.{preorder, HasNoCycle, IsExtent};
 ghost use Rattle.model_store.specs.Paths.{object_of_path};
@@ -10,6 +11,7 @@ ghost use Rattle.model_store.specs.Writes.{write, Creates, Writes};
 
 use crate::adding::{Rewired, write_reference};
 use crate::guesses::{guess_all, guess_more};
+use crate::held::Held;
 use crate::lookups::refers;
 use crate::parts::{Cellv, Object, Slot};
 use crate::refusal::StoreRefusal;
@@ -137,6 +139,14 @@ impl Model {
         ensures within { IfSome result (λ c. c.0 < length self.now.meta.classes) }
     {
         self.store.class(o)
+    }
+
+    /// An object: its class, and its slots in the order of the class's features.
+    pub fn object(&self, o: ObjId) -> Option<&Held>
+        ensures object { option_copied result ≡ object_at self.now.objects o }
+        ensures shaped { IfSome result (λ object. IsShaped self.now.meta object.now) }
+    {
+        self.store.object(o)
     }
 
     /// The values of a feature of an object.

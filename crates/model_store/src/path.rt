@@ -202,6 +202,17 @@ fn climbed(model: &Model, o: ObjId) -> Result<Climb, AllocError>
 }
 
 impl Model {
+    /// The fragment of an object that is there, as `path_of` gives it: only memory can be refused.
+    pub fn fragment(&self, o: ObjId) -> Result<Text, AllocError>
+        ensures { IfOk result (λ text. text ≡ path self.now o) }
+    {
+        let Climb { top, steps } = climbed(self, o)?;
+        let mut text = Text::new(self.store().alloc());
+        push_root(&mut text, self, top)?;
+        push_steps(&mut text, self, steps)?;
+        Ok(text)
+    }
+
     /// The fragment of an object: `/`, or `/k` for root k from 0 where there are several, and then `/@f.i` or `/@f` for each
     /// step to a content, i from 0.
     pub fn path_of(&self, o: ObjId) -> Result<Text, StoreRefusal>
@@ -211,10 +222,6 @@ impl Model {
         if self.class(o).is_none() {
             return Err(StoreRefusal::NoObject);
         }
-        let Climb { top, steps } = climbed(self, o)?;
-        let mut text = Text::new(self.store().alloc());
-        push_root(&mut text, self, top)?;
-        push_steps(&mut text, self, steps)?;
-        Ok(text)
+        Ok(self.fragment(o)?)
     }
 }

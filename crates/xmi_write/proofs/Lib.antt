@@ -1,0 +1,12 @@
+pub mod ObjectElements
+pub mod Stacked
+pub mod Slots
+pub mod SlotValues
+pub mod Cyclic
+pub mod Heights
+pub mod Rings
+pub mod Climbing
+pub mod Begun
+pub mod Tables
+pub mod Numbers
+pub mod Pieces
