@@ -21,6 +21,7 @@ mod PathsBack
 mod Readings
 mod Places
 mod Rising
+mod RisingRoots
 mod SameHolders
 mod Trees
 pub mod Updates

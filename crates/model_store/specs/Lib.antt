@@ -5,6 +5,7 @@ pub mod HolderTables
 pub mod Laws
 pub mod Order
 pub mod Paths
+pub mod Roots
 pub mod Texts
 pub mod Valid
 pub mod Writes

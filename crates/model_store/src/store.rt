@@ -17,7 +17,7 @@ use crate::held::Held;
 use crate::lookups::place_in;
 use crate::parts::{Cellv, Object, Slot};
 use crate::refusal::StoreRefusal;
-use crate::roots::{RootStep, settle};
+use crate::roots::{RootStep, Roots};
 use crate::types::fits;
 use atl_base::numbers::{ClassId, FeatId, ObjId};
 use ecore_meta::metamodel::Metamodel;
@@ -34,7 +34,7 @@ pub(crate) struct Store {
     objects: Vec<Option<Held>>,
     // how many objects there are
     count: usize,
-    roots: Vec<ObjId>,
+    roots: Roots,
 }
 
 impl std::marker::Model for Store {
@@ -43,7 +43,7 @@ impl std::marker::Model for Store {
 
     ghost Value = { Contents };
 
-    ghost view = { λ m. record { meta = m.meta.value; objects = m.objects.items; roots = m.roots.items } };
+    ghost view = { λ m. record { meta = m.meta.value; objects = m.objects.items; roots = m.roots } };
 
     ghost invariant = { λ m. (m.count ≡ object_count m.objects.items) × (length m.objects.items < 2 ^ 32)
         × AreShaped m.meta.value m.objects.items };
@@ -77,17 +77,15 @@ fn placed(alloc: Global, mut objects: Vec<Object>) -> Result<Vec<Option<Held>>, 
 // An object more, which is a root.
 fn push_root(
     objects: &mut Vec<Option<Held>>,
-    roots: &mut Vec<ObjId>,
+    roots: &mut Roots,
     object: Held,
     o: ObjId,
 ) -> Result<(), AllocError>
     ensures objects { objects.new.items ≡ (if is_ok result then objects.old.items ++ Some object ∷ [] else objects.old.items) }
-    ensures roots { roots.new.items ≡ (if is_ok result then roots.old.items ++ o ∷ [] else roots.old.items) }
+    ensures roots { roots.new ≡ (if is_ok result then roots.old ++ o ∷ [] else roots.old) }
 {
     objects.reserve(1)?;
-    if roots.push(o).is_err() {
-        return Err(AllocError);
-    }
+    roots.push(o)?;
     match objects.push(Some(object)) {
         Ok(()) => Ok(()),
         Err(_) => Err(AllocError),
@@ -104,7 +102,7 @@ impl Store {
             meta,
             objects: Vec::new(alloc),
             count: 0,
-            roots: Vec::new(alloc),
+            roots: Roots::new(alloc),
         })
     }
 
@@ -126,7 +124,7 @@ impl Store {
             meta,
             objects,
             count,
-            roots,
+            roots: Roots::of(roots),
         })
     }
 
@@ -157,7 +155,7 @@ impl Store {
     pub(crate) fn roots(&self) -> &[ObjId]
         ensures { result.now ≡ self.now.roots }
     {
-        &self.roots
+        self.roots.as_slice()
     }
 
     // How many numbers have been given: they are given from 0 on without a gap.
@@ -266,7 +264,7 @@ impl Store {
         ensures ok { OnOk result (self.new ≡ record self.old { roots = settled steps.now self.old.roots }) }
         ensures err { OnErr result (self.new ≡ self.old) }
     {
-        settle(&mut self.roots, steps)
+        self.roots.settle(self.alloc, steps)
     }
 
     // What the objects are made with.
@@ -283,7 +281,7 @@ impl Store {
             meta: self.meta.clone()?,
             objects: copy_objects(self.alloc, &self.objects)?,
             count: self.count,
-            roots: Vec::from_slice(self.alloc, &self.roots)?,
+            roots: self.roots.copy(self.alloc)?,
         })
     }
 

@@ -1,7 +1,10 @@
-use Rattle.std.proofs.Common.{rules}
-use Rattle.std.specs.Prelude.{not, ◌==◌}
-use Rattle.std.proofs.lemmas.Fn.{filter_same}
+use Rattle.std.proofs.Common.{sym, subst}
+use Rattle.model_store.specs.Roots.{Rise}
+use Rattle.model_store.proofs.RisingRoots.{fewer}
 use Rattle.model_store.proofs.roots.remove_root.Goals as goal
 
-pub returns-clause-items : goal.returns-clause-items
-returns-clause-items c = filter_same _ (λ r. not (r.0 == c.args.o.0)) _ (λ x b q h. (search rules, search rules)) _ _ c.retain.ensures.filtered
+pub returns-then-rise-clause-known : goal.returns-then-rise-clause-known
+returns-then-rise-clause-known c = record {
+  within = c.remove_by_halves-from.ensures.within;
+  rises = λ e. subst Rise (sym c.remove_by_halves-from.ensures.items) (fewer _ _ (c.requires.rises e));
+}

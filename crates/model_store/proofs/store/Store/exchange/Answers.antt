@@ -10,7 +10,7 @@ pub invariant_of-self : goal.invariant_of-self
 invariant_of-self c =
     let objects : List (Option Object) = c.self.inside.objects.items in
     let meta : Parts = c.self.inside.meta.value in
-    let m : Contents = record { meta = meta; objects = objects; roots = c.self.inside.roots.items } in
+    let m : Contents = record { meta = meta; objects = objects; roots = c.self.inside.roots } in
     let same : m ≡ c.args.self.now = c.self.view_is in
     let i = c.self.invariant in
     let at : ℕ = c.in-Some.at in
@@ -31,7 +31,7 @@ pub returns-clause-new : goal.returns-clause-new
 returns-clause-new c =
     let objects : List (Option Object) = c.self.inside.objects.items in
     let meta : Parts = c.self.inside.meta.value in
-    let m : Contents = record { meta = meta; objects = objects; roots = c.self.inside.roots.items } in
+    let m : Contents = record { meta = meta; objects = objects; roots = c.self.inside.roots } in
     let same : m ≡ c.args.self.now = c.self.view_is in
     let at : ℕ = c.in-Some.at in
     let within : HasPlace c.args.self.now.meta c.args.self.now.objects c.args.o at = c.in-Some.ensures.within in
@@ -40,6 +40,6 @@ returns-clause-new c =
     let found : Some at ≡ option_map_or (λ object. place_in meta object.class c.args.f) (object_at objects c.args.o) None =
     subst (λ (v : Contents). Some at ≡ option_map_or (λ object. place_in v.meta object.class c.args.f) (object_at v.objects c.args.o) None) (sym same) told in
     let change = change_is m c.args.o c.args.f at c.args.cells place found c.index_mut.result.now c.exchange_at.new.place c.index_mut.ensures.value c.exchange_at.ensures.new in
-    ap (λ (xs : List (Option Object)). let v : Contents = record { meta = meta; objects = xs; roots = c.self.inside.roots.items } in v) change
+    ap (λ (xs : List (Option Object)). let v : Contents = record { meta = meta; objects = xs; roots = c.self.inside.roots } in v) change
     ∙ sym (set_slot_is m c.args.o c.args.f at c.args.cells place found)
     ∙ ap (λ (v : Contents). set_slot v c.args.o c.args.f c.args.cells) same
