@@ -22,6 +22,7 @@ mod Readings
 mod Places
 mod Rising
 mod RisingRoots
+mod RowObjects
 mod SameHolders
 mod Trees
 pub mod Updates

@@ -6,6 +6,7 @@ pub mod Laws
 pub mod Order
 pub mod Paths
 pub mod Roots
+pub mod Rows
 pub mod Texts
 pub mod Valid
 pub mod Writes

@@ -56,7 +56,7 @@ fn has_pair(model: &Draft, o: ObjId, f: FeatId, p: ObjId) -> bool
     }
     match opposite(model.meta(), f) {
         Some(g) => shorter_holds(model.cells(o, f), p, model.cells(p, g), o),
-        None => holds(model.cells(o, f), p),
+        None => model.holds(o, f, p),
     }
 }
 

@@ -10,6 +10,7 @@ use crate::copies::{copy_slot, copy_value};
 use crate::held::Held;
 use crate::lookups::{feature, is_many, is_reference, is_unique};
 use crate::parts::{Cellv, Slot};
+use crate::row::Row;
 use atl_base::numbers::{ClassId, FeatId};
 use atl_base::text::Text;
 use ecore_meta::metamodel::Metamodel;
@@ -158,7 +159,7 @@ pub(crate) fn fresh(alloc: Global, meta: &Metamodel, class: ClassId) -> Result<H
     let features = meta.features_seen(class);
     let mut slots = Vec::with_capacity(alloc, features.len())?;
     for f in features {
-        slots.push(initial(alloc, meta, *f)?)?;
+        slots.push(Row::new(initial(alloc, meta, *f)?))?;
     }
     Ok(Held::new(class, slots))
 }

@@ -2,7 +2,7 @@
 // `specs/Drafts.antt` says what has been reached, and what is gone back to where memory is refused.
 ghost use Rattle.std.specs.Prelude.{◌≡◌, ◌++◌, ◌∷◌, [], length, slice_set, Some, None, OnOk, OnErr};
 ghost use Rattle.model_store.specs.declared.parts.Cellv.TheVariants.{Obj};
-ghost use Rattle.model_store.specs.Contents.{holder, set_slot, slot};
+ghost use Rattle.model_store.specs.Contents.{holder, holds, set_slot, slot};
 ghost use Rattle.model_store.specs.Drafts.{current, restored, undo, undone, settled, IsReady};
 ghost use Rattle.model_store.specs.HolderTables.{AreHolders};
 ghost use Rattle.model_store.specs.Writes.{freed, taken_in};
@@ -10,6 +10,7 @@ ghost use Rattle.model_store.specs.Writes.{freed, taken_in};
 use crate::guesses::guess;
 use crate::parts::{Cellv, Slot};
 use crate::roots::RootStep;
+use crate::row::Row;
 use crate::store::Store;
 use atl_base::numbers::{FeatId, ObjId};
 use ecore_meta::metamodel::Metamodel;
@@ -19,7 +20,7 @@ use std::alloc::{AllocError, Global};
 #[derive(Debug, Drop)]
 pub(crate) enum Change {
     // other values were put into it, in place of these
-    Replaced(ObjId, FeatId, Slot),
+    Replaced(ObjId, FeatId, Row),
     // a value was appended
     Appended(ObjId, FeatId),
 }
@@ -107,6 +108,13 @@ impl Draft {
         self.store.cells(o, f)
     }
 
+    // Whether a feature of an object holds an object.
+    pub(crate) fn holds(&self, o: ObjId, f: FeatId, p: ObjId) -> bool
+        ensures { result ≡ holds p (slot (current self.now) o f) }
+    {
+        self.store.holds(o, f, p)
+    }
+
     // Where an object is contained: the container and its feature.
     pub(crate) fn holder(&self, p: ObjId) -> Option<(ObjId, FeatId)>
         requires { IsReady (current self.now) self.now.holders.items }
@@ -123,7 +131,7 @@ impl Draft {
         ensures back { restored self.new ≡ restored self.old }
     {
         self.journal.reserve(1)?;
-        let old = self.store.exchange(o, f, cells);
+        let old = self.store.exchange(o, f, Row::new(cells));
         match self.journal.push(Change::Replaced(o, f, old)) {
             Ok(()) => Ok(()),
             Err(_) => Err(AllocError),

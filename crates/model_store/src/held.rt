@@ -2,8 +2,8 @@
 ghost use Rattle.std.specs.Prelude.{◌≡◌, ◌<◌, [], length, slice_index_or, IfOk};
 ghost use Rattle.model_store.specs.Contents.{with_slot};
 
-use crate::copies::copy_slot;
 use crate::parts::{Object, Slot};
+use crate::row::Row;
 use atl_base::numbers::ClassId;
 use sqlite_items::Items;
 use std::alloc::{AllocError, Global};
@@ -12,7 +12,7 @@ use std::alloc::{AllocError, Global};
 #[derive(Drop)]
 pub struct Held {
     class: ClassId,
-    slots: Vec<Slot>,
+    slots: Vec<Row>,
 }
 
 impl std::marker::Model for Held {
@@ -24,19 +24,19 @@ impl std::marker::Model for Held {
 }
 
 // The slots of a list.
-fn moved(alloc: Global, mut slots: Items<Slot>) -> Result<Vec<Slot>, AllocError>
+fn moved(alloc: Global, mut slots: Items<Slot>) -> Result<Vec<Row>, AllocError>
     ensures { IfOk result (λ list. list.items ≡ slots) }
 {
     let mut list = Vec::with_capacity(alloc, slots.len())?;
     'back: while let Some(slot) = slots.pop() {
-        list.push(slot)?;
+        list.push(Row::new(slot))?;
     }
     list.reverse();
     Ok(list)
 }
 
 impl Held {
-    pub(crate) fn new(class: ClassId, slots: Vec<Slot>) -> Held
+    pub(crate) fn new(class: ClassId, slots: Vec<Row>) -> Held
         ensures { result ≡ record { class = class; slots = slots.items } }
     {
         Held { class, slots }
@@ -61,14 +61,14 @@ impl Held {
     }
 
     /// A slot for each feature that is seen in the class, in the order of the features.
-    pub fn slots(&self) -> &[Slot]
+    pub fn slots(&self) -> &[Row]
         ensures { result.now ≡ self.now.slots }
     {
         &self.slots
     }
 
     // Other values in the slot at this place, and what it held.
-    pub(crate) fn exchange(&mut self, at: usize, cells: Slot) -> Slot
+    pub(crate) fn exchange(&mut self, at: usize, cells: Row) -> Row
         requires { at < length self.old.slots }
         ensures new { self.new ≡ with_slot self.old at cells }
         ensures old { result ≡ slice_index_or self.old.slots at [] }
@@ -88,12 +88,12 @@ impl Held {
 }
 
 // The same slots again.
-fn copy_slots(alloc: Global, slots: &[Slot]) -> Result<Vec<Slot>, AllocError>
+fn copy_slots(alloc: Global, slots: &[Row]) -> Result<Vec<Row>, AllocError>
     ensures { IfOk result (λ copy. copy.items ≡ slots.now) }
 {
     let mut copy = Vec::with_capacity(alloc, slots.len())?;
     for slot in slots {
-        copy.push(copy_slot(alloc, slot.as_slice())?)?;
+        copy.push(slot.copy(alloc)?)?;
     }
     Ok(copy)
 }

@@ -18,6 +18,7 @@ pub mod parts;
 mod path;
 pub mod refusal;
 mod roots;
+pub mod row;
 mod store;
 #[cfg(test)]
 mod tests;

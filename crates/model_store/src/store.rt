@@ -7,17 +7,18 @@ ghost use Rattle.model_store.specs.declared.parts.Cellv.TheVariants.{Obj};
 ghost use Rattle.model_store.specs.Drafts.{settled};
 ghost use Rattle.model_store.specs.Valid.{Fits, IsConcrete, IsModel};
 ghost use Rattle.model_store.specs.Writes.{write, Creates, Writes};
-ghost use Rattle.model_store.specs.Contents.{object_count, object_at, class_of, slot, with_slot, set_slot, refusal, refers, place_in, HasPlace, IsShaped};
+ghost use Rattle.model_store.specs.Contents.{holds, object_count, object_at, class_of, slot, with_slot, set_slot, refusal, refers, place_in, HasPlace, IsShaped};
 ghost use Rattle.model_store.specs.HolderTables.{AreHolders};
 
 use crate::attributes::{fresh, written};
 use crate::containing::{clear, note_place};
 use crate::copies::copy_objects;
 use crate::held::Held;
-use crate::lookups::place_in;
+use crate::lookups::{contains, opposite, place_in};
 use crate::parts::{Cellv, Object, Slot};
 use crate::refusal::StoreRefusal;
 use crate::roots::{RootStep, Roots};
+use crate::row::Row;
 use crate::types::fits;
 use atl_base::numbers::{ClassId, FeatId, ObjId};
 use ecore_meta::metamodel::Metamodel;
@@ -50,7 +51,7 @@ impl std::marker::Model for Store {
 }
 
 // Other values in the slot at this place, and what it held.
-fn exchange_at(place: &mut Option<Held>, at: usize, cells: Slot) -> Slot
+fn exchange_at(place: &mut Option<Held>, at: usize, cells: Row) -> Row
     requires { (object : Object) → place.old ≡ Some object → at < length object.slots }
     ensures new { place.new ≡ option_map (λ object. with_slot object at cells) place.old }
     ensures old { (object : Object) → place.old ≡ Some object → result ≡ slice_index_or object.slots at [] }
@@ -190,7 +191,7 @@ impl Store {
             return Err(StoreRefusal::NoObject);
         };
         match place_in(&self.meta, object.class(), f) {
-            Some(at) => Ok(&object.slots()[at]),
+            Some(at) => Ok(object.slots()[at].slot()),
             None => Err(StoreRefusal::NoFeature),
         }
     }
@@ -225,13 +226,26 @@ impl Store {
         }
     }
 
+    // Whether a feature of an object holds an object.
+    pub(crate) fn holds(&self, o: ObjId, f: FeatId, p: ObjId) -> bool
+        ensures { result ≡ holds p (slot self.now o f) }
+    {
+        let Some(object) = self.object(o) else {
+            return false;
+        };
+        match place_in(&self.meta, object.class(), f) {
+            Some(at) => object.slots()[at].holds(p),
+            None => false,
+        }
+    }
+
     // Other values in a slot, where there is one, and what it held.
-    pub(crate) fn exchange(&mut self, o: ObjId, f: FeatId, cells: Slot) -> Slot
+    pub(crate) fn exchange(&mut self, o: ObjId, f: FeatId, cells: Row) -> Row
         ensures new { self.new ≡ set_slot self.old o f cells }
         ensures old { result ≡ slot self.old o f }
     {
         let Some(at) = self.place(o, f) else {
-            return Items::new(self.alloc);
+            return Row::new(Items::new(self.alloc));
         };
         exchange_at(&mut self.objects[o.0 as usize], at, cells)
     }
@@ -242,11 +256,11 @@ impl Store {
         ensures ok { OnOk result (self.new ≡ set_slot self.old o f (slot self.old o f ++ Obj q ∷ [])) }
         ensures err { OnErr result (self.new ≡ self.old) }
     {
-        let mut cells = self.exchange(o, f, Items::new(self.alloc()));
-        let pushed = cells.push(Cellv::Obj(q));
+        let keep = !contains(&self.meta, f) && opposite(&self.meta, f).is_none();
+        let mut cells = self.exchange(o, f, Row::new(Items::new(self.alloc)));
+        let pushed = cells.push(self.alloc, Cellv::Obj(q), keep);
         let _ = self.exchange(o, f, cells);
-        pushed?;
-        Ok(())
+        pushed
     }
 
     // The last value less in a slot.
@@ -254,7 +268,7 @@ impl Store {
     pub(crate) fn drop_last(&mut self, o: ObjId, f: FeatId)
         ensures { self.new ≡ set_slot self.old o f (take (length (slot self.old o f) - 1) (slot self.old o f)) }
     {
-        let mut cells = self.exchange(o, f, Items::new(self.alloc()));
+        let mut cells = self.exchange(o, f, Row::new(Items::new(self.alloc)));
         let _ = cells.pop();
         let _ = self.exchange(o, f, cells);
     }
@@ -310,7 +324,7 @@ impl Store {
         ensures err { OnErr result (self.new ≡ self.old) }
     {
         let cells = written(self.alloc, &self.meta, f, self.cells(o, f), values)?;
-        let _ = self.exchange(o, f, cells);
+        let _ = self.exchange(o, f, Row::new(cells));
         Ok(())
     }
 }

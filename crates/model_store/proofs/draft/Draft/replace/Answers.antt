@@ -9,7 +9,7 @@ pub returns-clause-back : goal.returns-clause-back
 returns-clause-back c =
     let old = c.args.self.now in
     let pushed : c.push.new.self.items ≡ old.journal.items ++ Replaced c.args.o c.args.f (slot old.store c.args.o c.args.f) ∷ [] = search rules in
-    let stands : c.exchange-old.new.self ≡ set_slot old.store c.args.o c.args.f c.args.cells = c.exchange-old.ensures.new in
+    let stands : c.exchange-old.new.self ≡ set_slot old.store c.args.o c.args.f c.args.cells = c.exchange-old.ensures.new ∙ ap (set_slot old.store c.args.o c.args.f) c.new.ensures in
     ap (λ (n : Contents). let p : Contents × ℕ = (n, length old.holders.items) in p) (
     ap (λ changes. undone changes c.exchange-old.new.self) pushed
     ∙ ap (undone (old.journal.items ++ Replaced c.args.o c.args.f (slot old.store c.args.o c.args.f) ∷ [])) stands

@@ -10,7 +10,7 @@ returns c =
     let rest : List Cellv = c.pop.new.self in
     let shorter : rest ≡ take (length (slot m c.args.o c.args.f) - 1) (slot m c.args.o c.args.f) =
     popped c.pop.result c.exchange-cells.result rest c.pop.ensures ∙ ap (λ (l : List Cellv). take (length l - 1) l) c.exchange-cells.ensures.old in
-    c.exchange.ensures.new
+    c.exchange-2.ensures.new
     ∙ ap (λ (n : Contents). set_slot n c.args.o c.args.f rest) c.exchange-cells.ensures.new
     ∙ set_twice m c.args.o c.args.f _ rest
     ∙ ap (set_slot m c.args.o c.args.f) shorter
