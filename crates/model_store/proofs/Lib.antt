@@ -23,6 +23,7 @@ mod Places
 mod Rising
 mod RisingRoots
 mod RowObjects
+mod Appending
 mod SameHolders
 mod Trees
 pub mod Updates

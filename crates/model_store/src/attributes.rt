@@ -1,14 +1,14 @@
 // Writing to attributes: values appended or replaced, and the defaults.
-ghost use Rattle.std.specs.Prelude.{◌≡◌, ◌∷◌, [], ◌<◌, length, position, IfOk, OnOk};
+ghost use Rattle.std.specs.Prelude.{◌≡◌, ◌∷◌, [], ◌<◌, length, position, take, IfOk, OnOk, OnErr};
 ghost use Rattle.std.specs.List.{list_any};
 ghost use Rattle.std.specs.Str.{bytes_eq};
 ghost use Rattle.std.specs.Str.Parse.{signed_digits_value};
 ghost use Rattle.ecore_meta.specs.Valid.{IsTextOf, IsIntText};
-ghost use Rattle.model_store.specs.Writes.{same_value, with_value, appended, written, initial, value_of_text, literal_number, literal_of, fresh};
+ghost use Rattle.model_store.specs.Writes.{same_value, with_value, appended, replaced, initial, value_of_text, literal_number, literal_of, fresh};
 
-use crate::copies::{copy_slot, copy_value};
+use crate::copies::copy_value;
 use crate::held::Held;
-use crate::lookups::{feature, is_many, is_reference, is_unique};
+use crate::lookups::{feature, is_reference};
 use crate::parts::{Cellv, Slot};
 use crate::row::Row;
 use atl_base::numbers::{ClassId, FeatId};
@@ -40,34 +40,59 @@ fn has_value(cells: &[Cellv], value: &Cellv) -> bool
 }
 
 // A value more, unless the feature is unique and has it.
-fn append_value(
-    alloc: Global,
-    unique: bool,
-    cells: &mut Slot,
-    value: &Cellv,
-) -> Result<(), AllocError>
-    ensures { OnOk result (cells.new ≡ with_value unique cells.old value.now) }
+fn append_value(alloc: Global, unique: bool, row: &mut Row, value: &Cellv) -> Result<(), AllocError>
+    ensures ok { OnOk result (row.new ≡ with_value unique row.old value.now) }
+    ensures kept { take (length row.old) row.new ≡ row.old }
 {
-    if unique && has_value(cells.as_slice(), value) {
+    if unique && has_value(row.as_slice(), value) {
         return Ok(());
     }
-    cells.push(copy_value(alloc, value)?)
+    row.push(alloc, copy_value(alloc, value)?, false)
 }
 
-// The values of a slot, and others after them.
+// The values of a slot, and others after them. After a refusal some of them stand there.
 fn append_all(
     alloc: Global,
     unique: bool,
-    cells: &[Cellv],
+    row: &mut Row,
     values: &[Cellv],
-) -> Result<Slot, AllocError>
-    ensures { IfOk result (λ slot. slot ≡ appended unique cells.now values.now) }
+) -> Result<(), AllocError>
+    ensures ok { OnOk result (row.new ≡ appended unique row.old values.now) }
+    ensures kept { take (length row.old) row.new ≡ row.old }
 {
-    let mut slot = copy_slot(alloc, cells)?;
     for value in values {
-        append_value(alloc, unique, &mut slot, value)?;
+        append_value(alloc, unique, row, value)?;
     }
-    Ok(slot)
+    Ok(())
+}
+
+// So many of the values alone.
+fn cut_to(row: &mut Row, n: usize)
+    ensures { row.new ≡ take n row.old }
+{
+    'back: while n < row.as_slice().len() {
+        let _ = row.pop();
+    }
+}
+
+// The values of a slot, and others after them, or those alone.
+pub(crate) fn append_or_not(
+    alloc: Global,
+    unique: bool,
+    row: &mut Row,
+    values: &[Cellv],
+) -> Result<(), AllocError>
+    ensures ok { OnOk result (row.new ≡ appended unique row.old values.now) }
+    ensures err { OnErr result (row.new ≡ row.old) }
+{
+    let before = row.as_slice().len();
+    match append_all(alloc, unique, row, values) {
+        Ok(()) => Ok(()),
+        Err(refused) => {
+            cut_to(row, before);
+            Err(refused)
+        }
+    }
 }
 
 // The place of the literal of this text.
@@ -164,19 +189,15 @@ pub(crate) fn fresh(alloc: Global, meta: &Metamodel, class: ClassId) -> Result<H
     Ok(Held::new(class, slots))
 }
 
-// What a slot of an attribute holds after a write.
-pub(crate) fn written(
+// What the slot of a single-valued attribute holds after a write.
+pub(crate) fn replaced(
     alloc: Global,
     meta: &Metamodel,
     f: FeatId,
-    cells: &[Cellv],
     values: &[Cellv],
 ) -> Result<Slot, AllocError>
-    ensures { IfOk result (λ slot. slot ≡ written meta.now f cells.now values.now) }
+    ensures { IfOk result (λ slot. slot ≡ replaced (initial meta.now f) values.now) }
 {
-    if is_many(meta, f) {
-        return append_all(alloc, is_unique(meta, f), cells, values);
-    }
     let Some(value) = values.first() else {
         return initial(alloc, meta, f);
     };

@@ -6,15 +6,15 @@ ghost use Rattle.model_store.specs.declared.parts.Object.{Object};
 ghost use Rattle.model_store.specs.declared.parts.Cellv.TheVariants.{Obj};
 ghost use Rattle.model_store.specs.Drafts.{settled};
 ghost use Rattle.model_store.specs.Valid.{Fits, IsConcrete, IsModel};
-ghost use Rattle.model_store.specs.Writes.{write, Creates, Writes};
-ghost use Rattle.model_store.specs.Contents.{holds, object_count, object_at, class_of, slot, with_slot, set_slot, refusal, refers, place_in, HasPlace, IsShaped};
+ghost use Rattle.model_store.specs.Writes.{appended, write, Creates, Writes};
+ghost use Rattle.model_store.specs.Contents.{holds, is_unique, object_count, object_at, class_of, slot, with_slot, set_slot, refusal, refers, place_in, HasPlace, IsShaped};
 ghost use Rattle.model_store.specs.HolderTables.{AreHolders};
 
-use crate::attributes::{fresh, written};
+use crate::attributes::{append_or_not, fresh, replaced};
 use crate::containing::{clear, note_place};
 use crate::copies::copy_objects;
 use crate::held::Held;
-use crate::lookups::{contains, opposite, place_in};
+use crate::lookups::{contains, is_many, is_unique, opposite, place_in};
 use crate::parts::{Cellv, Object, Slot};
 use crate::refusal::StoreRefusal;
 use crate::roots::{RootStep, Roots};
@@ -317,13 +317,28 @@ impl Store {
         Ok(())
     }
 
+    // Values more in the slot of a many-valued attribute.
+    fn append_values(&mut self, o: ObjId, f: FeatId, values: &[Cellv]) -> Result<(), AllocError>
+        ensures ok { OnOk result (self.new ≡ set_slot self.old o f (appended (is_unique self.old.meta f) (slot self.old o f) values.now)) }
+        ensures err { OnErr result (self.new ≡ self.old) }
+    {
+        let unique = is_unique(&self.meta, f);
+        let mut row = self.exchange(o, f, Row::new(Items::new(self.alloc)));
+        let done = append_or_not(self.alloc, unique, &mut row, values);
+        let _ = self.exchange(o, f, row);
+        done
+    }
+
     // Writes to an attribute.
     pub(crate) fn assign(&mut self, o: ObjId, f: FeatId, values: &[Cellv]) -> Result<(), AllocError>
         requires { refers self.old.meta f ≡ false }
         ensures ok { OnOk result (self.new ≡ write self.old o f values.now) }
         ensures err { OnErr result (self.new ≡ self.old) }
     {
-        let cells = written(self.alloc, &self.meta, f, self.cells(o, f), values)?;
+        if is_many(&self.meta, f) {
+            return self.append_values(o, f, values);
+        }
+        let cells = replaced(self.alloc, &self.meta, f, values)?;
         let _ = self.exchange(o, f, Row::new(cells));
         Ok(())
     }
