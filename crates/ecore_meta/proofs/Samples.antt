@@ -1,7 +1,7 @@
--- A test of the conditions on a metamodel that computes, for lists without enumerations and defaults: by it the lists
--- that the tests build are shown to be valid. Ranks of the classes, higher than those of their supertypes, show that none is its own.
-use Rattle.std.proofs.Common.{◌≡◌, ◌≢◌, ℕ, zero, suc, ◌+◌, ◌<◌, ◌≤◌, ◌&&◌, Bool, true, false, not, eqb, ltb, List, [], ◌∷◌, ◌++◌, length, map, refl, sym, ap, subst, ◌∙◌, arith, add-zero, Option, Some, None}
-use Rattle.std.specs.Prelude.{◌↔◌, codes, is_none, IfSome, slice_index, slice_get, option_map}
+-- A test of the conditions on a metamodel that computes: by it the lists that the tests build are shown to be valid. Ranks of the
+-- classes, higher than those of their supertypes, show that none is its own. Of the defaults of whole numbers it passes those without a sign.
+use Rattle.std.proofs.Common.{◌≡◌, ◌≢◌, ℕ, zero, suc, ◌+◌, ◌^◌, ◌<◌, ◌≤◌, ◌⊎◌, inl, inr, ◌&&◌, Bool, true, false, not, eqb, ltb, List, [], ◌∷◌, ◌++◌, length, map, refl, sym, ap, subst, ◌∙◌, arith, add-zero, Option, Some, None}
+use Rattle.std.specs.Prelude.{◌↔◌, ◌||◌, codes, IfSome, slice_index, slice_get, option_map}
 use Rattle.std.proofs.lemmas.Bool.{and_parts, false≢true, ltb-true, eqb-true, eq-eqb}
 use Rattle.std.proofs.lemmas.List.Elements.{All-weaker}
 use Rattle.std.proofs.lemmas.List.Folds.{Any-from_list_any}
@@ -9,12 +9,14 @@ use Rattle.std.proofs.lemmas.List.Kept.{AllPairs-cons}
 use Rattle.std.proofs.lemmas.List.Sums.{AllPass-from_list_all}
 use Rattle.std.proofs.lemmas.Option.{none-some, same_Some, slice_get-get_or, get_or_from_slice_get, slice_get_within}
 use Rattle.std.proofs.lemmas.Slice.Eq.{bytes_eq-Decides}
+use Rattle.std.specs.Int.{is_in_range}
 use Rattle.std.specs.List.{All, Contains, list_all, list_any}
 use Rattle.std.specs.Option.{option_map_or}
 use Rattle.std.specs.Str.{bytes_eq}
 use Rattle.atl_base.specs.declared.numbers.ClassId.{ClassId}
 use Rattle.atl_base.specs.declared.numbers.FeatId.{FeatId}
 use Rattle.ecore_meta.specs.declared.parts.Class.{Class}
+use Rattle.ecore_meta.specs.declared.parts.EnumDef.{EnumDef}
 use Rattle.ecore_meta.specs.declared.parts.FeatKind.{FeatKind}
 use Rattle.ecore_meta.specs.declared.parts.FeatKind.TheVariants.{Str, Int, Truth, Enum, Opaque, Refer}
 use Rattle.ecore_meta.specs.declared.parts.Feature.{Feature}
@@ -22,7 +24,7 @@ use Rattle.ecore_meta.specs.declared.parts.Parts.{Parts}
 use Rattle.ecore_meta.specs.Inheritance.{Conforms, itself, by_super, IsAcyclic, supers_of, own_of, features, name_of}
 use Rattle.ecore_meta.specs.Names.{IsName, IsPrefix, IsUri, HasNoDot, is_plain_name}
 use Rattle.ecore_meta.specs.Order.{class_no}
-use Rattle.ecore_meta.specs.Valid.{AllDiffer, owner_of, IsKindWithin, AreOpposite, IsMetamodel, is_reference, is_containment, class_of, opposite_of, IsTextOf}
+use Rattle.ecore_meta.specs.Valid.{AllDiffer, owner_of, IsKindWithin, AreOpposite, IsMetamodel, is_reference, is_containment, class_of, opposite_of, IsIntText, IsTextOf, number_of}
 
 -- ---- tests of lists
 abbrev pub all_from : {X : Type 0} → (ℕ → X → Bool) → ℕ → List X → Bool
@@ -98,7 +100,7 @@ abbrev pub fits_opposite : List Feature → ℕ → Feature → Bool
 fits_opposite all i feature = option_map_or (λ g. option_map_or (fits i feature) (slice_get all g.0) true) (opposite_of feature.kind) true
 
 abbrev pub is_kind_within : Parts → FeatKind → Bool
-is_kind_within m (Enum e) = false
+is_kind_within m (Enum e) = ltb e (length m.enums)
 is_kind_within m (Refer class contains opposite) = ltb class.0 (length m.classes) && option_map_or (λ g. ltb g.0 (length m.features)) opposite true
 is_kind_within m _ = true
 
@@ -111,8 +113,26 @@ is_prefix n = is_name n && (not (bytes_eq n (codes "xml")) && (not (bytes_eq n (
 abbrev pub is_uri : List ℕ → Bool
 is_uri n = not (bytes_eq n []) && (not (bytes_eq n (codes "http://www.omg.org/XMI")) && not (bytes_eq n (codes "http://www.w3.org/2001/XMLSchema-instance")))
 
+abbrev pub is_number : List ℕ → Bool
+is_number [] = false
+is_number (c ∷ cs) = list_all (is_in_range 48 57) (c ∷ cs) && ltb (number_of (c ∷ cs)) (2 ^ 63)
+
+abbrev pub is_text_of : Parts → FeatKind → List ℕ → Bool
+is_text_of m Str text = true
+is_text_of m Int text = is_number text
+is_text_of m Truth text = bytes_eq text (codes "true") || bytes_eq text (codes "false")
+is_text_of m (Enum e) text = list_any (bytes_eq text) (map (λ l. l.text) (option_map_or (λ d. d.literals) (slice_get m.enums e) []))
+is_text_of m Opaque text = true
+is_text_of m (Refer class contains opposite) text = true
+
+abbrev pub has_default : Parts → Feature → Bool
+has_default m f = option_map_or (is_text_of m f.kind) f.default true
+
+abbrev pub is_enumeration : EnumDef → Bool
+is_enumeration e = is_name e.name && (list_all (λ l. is_name l.name) e.literals && (all_differ bytes_eq (map (λ l. l.name) e.literals) && all_differ bytes_eq (map (λ l. l.text) e.literals)))
+
 pub record Passes (ranks : List ℕ) (m : Parts) : Type 0 where
-  pub enums : m.enums ≡ []
+  pub enums : list_all is_enumeration m.enums ≡ true
   pub skipped : m.skipped ≡ []
   pub packages : list_all (λ c. ltb c.package (length m.packages)) m.classes ≡ true
   pub supers : list_all (λ c. list_all (λ s. ltb s.0 (length m.classes)) c.supers) m.classes ≡ true
@@ -123,7 +143,7 @@ pub record Passes (ranks : List ℕ) (m : Parts) : Type 0 where
   pub owning : all_from (is_owned m.classes) 0 m.features ≡ true
   pub own : list_all (λ c. all_differ (λ f g. eqb f.0 g.0) c.own) m.classes ≡ true
   pub seen : all_from (λ i c. all_differ bytes_eq (map (name_of m.features) (features m.classes (class_no i)))) 0 m.classes ≡ true
-  pub defaults : list_all (λ f. is_none f.default) m.features ≡ true
+  pub defaults : list_all (has_default m) m.features ≡ true
   pub opposites : all_from (fits_opposite m.features) 0 m.features ≡ true
   pub classifiers : all_differ bytes_eq (map (λ c. c.name) m.classes ++ map (λ e. e.name) m.enums) ≡ true
   pub uris : all_differ bytes_eq (map (λ p. p.uri) m.packages) ≡ true
@@ -161,7 +181,7 @@ IsKindWithin-tested : (m : Parts) (kind : FeatKind) → is_kind_within m kind �
 IsKindWithin-tested m Str h = tt
 IsKindWithin-tested m Int h = tt
 IsKindWithin-tested m Truth h = tt
-IsKindWithin-tested m (Enum e) h = absurd (false≢true h)
+IsKindWithin-tested m (Enum e) h = ltb-true e (length m.enums) h
 IsKindWithin-tested m Opaque h = tt
 IsKindWithin-tested m (Refer class contains opposite) h =
     let p = and_parts (ltb class.0 (length m.classes)) (option_map_or (λ g. ltb g.0 (length m.features)) opposite true) h in
@@ -175,9 +195,51 @@ is_feature-told : (o : Option FeatId) (f : FeatId) → is_feature o f.0 ≡ true
 is_feature-told None f h = absurd (false≢true h)
 is_feature-told (Some d) f h = ap (λ n. let e : Option FeatId = Some (record { 0 = n }) in e) (eqb-true d.0 f.0 h)
 
-none_told : {X : Type 0} (o : Option X) (P : X → Type 0) → is_none o ≡ true → IfSome o P
-none_told None P h = tt
-none_told (Some x) P h = absurd (false≢true h)
+is_number-told : (text : List ℕ) → is_number text ≡ true → IsIntText text
+is_number-told [] h = absurd (false≢true h)
+is_number-told (c ∷ cs) h =
+    let p = and_parts (list_all (is_in_range 48 57) (c ∷ cs)) (ltb (number_of (c ∷ cs)) (2 ^ 63)) h in
+    inl (record { some = λ e. cc; digits = p.0 }, ltb-true (number_of (c ∷ cs)) (2 ^ 63) p.1)
+
+is_truth-told : (text : List ℕ) (b : Bool) → bytes_eq text (codes "true") ≡ b → (b || bytes_eq text (codes "false")) ≡ true → (text ≡ codes "true") ⊎ (text ≡ codes "false")
+is_truth-told text true e h = inl ((bytes_eq-Decides text (codes "true")).0 e)
+is_truth-told text false e h = inr ((bytes_eq-Decides text (codes "false")).0 h)
+
+is_among-told : (text : List ℕ) (texts : List (List ℕ)) → list_any (bytes_eq text) texts ≡ true → Contains texts text
+is_among-told text texts h =
+    let found = Any-from_list_any (bytes_eq text) texts h in
+    let it : text ≡ found.1 = (bytes_eq-Decides text found.1).0 found.4 in
+    subst (Contains texts) (sym it) (found.0, found.2, found.3)
+
+is_text_of-told : (m : Parts) (kind : FeatKind) (text : List ℕ) → is_reference kind ≡ false → is_text_of m kind text ≡ true → IsTextOf m kind text
+is_text_of-told m Str text k h = tt
+is_text_of-told m Int text k h = is_number-told text h
+is_text_of-told m Truth text k h = is_truth-told text (bytes_eq text (codes "true")) refl h
+is_text_of-told m (Enum e) text k h = is_among-told text (map (λ l. l.text) (option_map_or (λ d. d.literals) (slice_get m.enums e) [])) h
+is_text_of-told m Opaque text k h = tt
+is_text_of-told m (Refer class contains opposite) text k h = absurd (false≢true (sym k))
+
+default_told : (m : Parts) (kind : FeatKind) (o : Option (List ℕ)) → option_map_or (is_text_of m kind) o true ≡ true → is_reference kind ≡ false → IfSome o (IsTextOf m kind)
+default_told m kind None h k = tt
+default_told m kind (Some text) h k = is_text_of-told m kind text k h
+
+record IsEnumeration (e : EnumDef) : Type 0 where
+  name : IsName e.name
+  literals : All (λ l. IsName l.name) e.literals
+  names_differ : AllDiffer (map (λ l. l.name) e.literals)
+  texts_differ : AllDiffer (map (λ l. l.text) e.literals)
+
+is_enumeration-told : (e : EnumDef) → is_enumeration e ≡ true → IsEnumeration e
+is_enumeration-told e h =
+    let a = and_parts (is_name e.name) _ h in
+    let b = and_parts (list_all (λ l. is_name l.name) e.literals) _ a.1 in
+    let d = and_parts (all_differ bytes_eq (map (λ l. l.name) e.literals)) (all_differ bytes_eq (map (λ l. l.text) e.literals)) b.1 in
+    record {
+      name = IsName-tested e.name a.0;
+      literals = All-tested (λ l. IsName l.name) (λ l. is_name l.name) (λ l t. IsName-tested l.name t) e.literals b.0;
+      names_differ = AllDiffer-tested bytes_eq same_text (map (λ l. l.name) e.literals) d.0;
+      texts_differ = AllDiffer-tested bytes_eq same_text (map (λ l. l.text) e.literals) d.1;
+    }
 
 module _ (ranks : List ℕ) (m : Parts) (p : Passes ranks m) where
   rank_falls : (c s : ClassId) → Contains (supers_of m.classes c) s → slice_index ranks s.0 < slice_index ranks c.0
@@ -257,10 +319,11 @@ module _ (ranks : List ℕ) (m : Parts) (p : Passes ranks m) where
     seen_differ = λ c h.
         AllDiffer-tested bytes_eq same_text (map (name_of m.features) (features m.classes c))
         (at_place (λ i k. all_differ bytes_eq (map (name_of m.features) (features m.classes (class_no i)))) m.classes c.0 _ p.seen (slice_get-get_or m.classes c.0 (record { name = []; «package» = 0; is_abstract = false; supers = []; own = [] }) h));
-    defaults = All-tested (λ f. is_reference f.kind ≡ false → IfSome f.default (IsTextOf m f.kind)) (λ f. is_none f.default) (λ f t k. none_told f.default (IsTextOf m f.kind) t) m.features p.defaults;
+    defaults = All-tested (λ f. is_reference f.kind ≡ false → IfSome f.default (IsTextOf m f.kind)) (has_default m) (λ f t k. default_told m f.kind f.default t k) m.features p.defaults;
     opposites = fits_told;
     classifiers_differ = AllDiffer-tested bytes_eq same_text _ p.classifiers;
-    literals_differ = subst (All (λ e. AllDiffer (map (λ l. l.name) e.literals) × AllDiffer (map (λ l. l.text) e.literals))) (sym p.enums) (λ k d h. absurd (omega (arith, h)));
+    literals_differ = All-tested (λ e. AllDiffer (map (λ l. l.name) e.literals) × AllDiffer (map (λ l. l.text) e.literals)) is_enumeration
+        (λ e t. let told = is_enumeration-told e t in (told.names_differ, told.texts_differ)) m.enums p.enums;
     uris_differ = AllDiffer-tested bytes_eq same_text (map (λ p. p.uri) m.packages) p.uris;
     prefixes_differ = AllDiffer-tested bytes_eq same_text (map (λ p. p.prefix) m.packages) p.prefixes;
     names = record {
@@ -269,6 +332,7 @@ module _ (ranks : List ℕ) (m : Parts) (p : Passes ranks m) where
       classes = All-tested (λ c. IsName c.name) (λ c. is_name c.name) (λ c t. IsName-tested c.name t) m.classes p.class_names;
       features = All-tested (λ f. IsName f.name × HasNoDot f.name) (λ f. is_name f.name && not (list_any (λ b. eqb b 46) f.name))
           (λ f t. let a = and_parts (is_name f.name) (not (list_any (λ b. eqb b 46) f.name)) t in (IsName-tested f.name a.0, not_true _ a.1)) m.features p.feature_names;
-      enums = subst (All (λ e. IsName e.name × All (λ l. IsName l.name) e.literals)) (sym p.enums) (λ k d h. absurd (omega (arith, h)));
+      enums = All-tested (λ e. IsName e.name × All (λ l. IsName l.name) e.literals) is_enumeration
+          (λ e t. let told = is_enumeration-told e t in (told.name, told.literals)) m.enums p.enums;
     };
   }

@@ -7,8 +7,8 @@ ghost use Rattle.xmi_write.specs.Xmi.{Content as SomeContent, Value as SomeValue
 use crate::named::Named;
 use atl_base::numbers::{FeatId, ObjId};
 use ecore_meta::metamodel::Metamodel;
-use model_store::lookups::{contains, is_many, refers};
 use model_store::held::Held;
+use model_store::lookups::{contains, is_many, refers};
 use model_store::parts::Cellv;
 use std::alloc::{AllocError, Global};
 

@@ -40,39 +40,45 @@ fn text(alloc: Global, words: &str) -> Result<Text, TextRefusal>
     Text::from_bytes(alloc, words.as_bytes())
 }
 
-fn classes(alloc: Global) -> Result<Items<Class>, TextRefusal> {
-    let mut list = Items::new(alloc);
-    list.push(Class {
-        name: text(alloc, "Node")?,
-        package: 0,
-        is_abstract: false,
-        supers: Items::new(alloc),
-        own: Items::from_slice(
-            alloc,
-            &[
-                NAME,
-                COUNT,
-                COLOR,
-                NEXT,
-                KIDS,
-                FeatId(5),
-                TAGS,
-                HEART,
-                OPEN,
-                FRIENDS,
-            ],
-        )?,
-    })?;
-    list.push(Class {
-        name: text(alloc, "Leaf")?,
-        package: 1,
-        is_abstract: false,
-        supers: Items::from_slice(alloc, &[ClassId(0)])?,
-        own: Items::new(alloc),
+// One package more, whose prefix is its name.
+fn with_package(
+    alloc: Global,
+    mut list: Items<Package>,
+    name: &str,
+    uri: &str,
+) -> Result<Items<Package>, TextRefusal>
+    ensures { IfOk result (λ longer. longer ≡ list ++ record { name = name.now; uri = uri.now; prefix = name.now } ∷ []) }
+{
+    list.push(Package {
+        name: text(alloc, name)?,
+        uri: text(alloc, uri)?,
+        prefix: text(alloc, name)?,
     })?;
     Ok(list)
 }
 
+// One class more.
+fn with_class(
+    alloc: Global,
+    mut list: Items<Class>,
+    name: &str,
+    package: u32,
+    supers: &[ClassId],
+    own: &[FeatId],
+) -> Result<Items<Class>, TextRefusal>
+    ensures { IfOk result (λ longer. longer ≡ list ++ record { name = name.now; «package» = «package»; is_abstract = false; supers = supers.now; own = own.now } ∷ []) }
+{
+    list.push(Class {
+        name: text(alloc, name)?,
+        package,
+        is_abstract: false,
+        supers: Items::from_slice(alloc, supers)?,
+        own: Items::from_slice(alloc, own)?,
+    })?;
+    Ok(list)
+}
+
+// One feature of the first class more.
 fn with_feature(
     alloc: Global,
     mut list: Items<Feature>,
@@ -80,7 +86,9 @@ fn with_feature(
     kind: FeatKind,
     many: bool,
     default: Option<Text>,
-) -> Result<Items<Feature>, TextRefusal> {
+) -> Result<Items<Feature>, TextRefusal>
+    ensures { IfOk result (λ longer. longer ≡ list ++ record { name = name.now; owner = record { 0 = 0 }; kind = kind; many = many; unique = false; is_id = false; default = default } ∷ []) }
+{
     list.push(Feature {
         name: text(alloc, name)?,
         owner: ClassId(0),
@@ -93,7 +101,10 @@ fn with_feature(
     Ok(list)
 }
 
-fn refer(contains: bool, opposite: Option<FeatId>) -> FeatKind {
+// A reference to nodes.
+fn refer(contains: bool, opposite: Option<FeatId>) -> FeatKind
+    ensures { result ≡ FeatKind.Refer (record { 0 = 0 }) contains opposite }
+{
     FeatKind::Refer {
         class: ClassId(0),
         contains,
@@ -101,66 +112,85 @@ fn refer(contains: bool, opposite: Option<FeatId>) -> FeatKind {
     }
 }
 
-fn features(alloc: Global) -> Result<Items<Feature>, TextRefusal> {
-    let one = Some(text(alloc, "01")?);
-    let green = Some(text(alloc, "green")?);
-    let list = with_feature(alloc, Items::new(alloc), "name", FeatKind::Str, false, None)?;
-    let list = with_feature(alloc, list, "count", FeatKind::Int, false, one)?;
-    let list = with_feature(alloc, list, "color", FeatKind::Enum(0), false, green)?;
-    let list = with_feature(alloc, list, "next", refer(false, None), false, None)?;
-    let list = with_feature(
-        alloc,
-        list,
-        "kids",
-        refer(true, Some(FeatId(5))),
-        true,
-        None,
-    )?;
-    let list = with_feature(alloc, list, "up", refer(false, Some(KIDS)), false, None)?;
-    let list = with_feature(alloc, list, "tags", FeatKind::Str, true, None)?;
-    let list = with_feature(alloc, list, "heart", refer(true, None), false, None)?;
-    let list = with_feature(alloc, list, "open", FeatKind::Truth, false, None)?;
-    with_feature(alloc, list, "friends", refer(false, None), true, None)
-}
-
-fn packages(alloc: Global) -> Result<Items<Package>, TextRefusal> {
-    let mut list = Items::new(alloc);
-    for (prefix, uri) in [("A", "urn:a"), ("L", "urn:l")] {
-        list.push(Package {
-            name: text(alloc, prefix)?,
-            uri: text(alloc, uri)?,
-            prefix: text(alloc, prefix)?,
-        })?;
-    }
+// One literal more.
+fn with_literal(
+    alloc: Global,
+    mut list: Items<Literal>,
+    name: &str,
+    words: &str,
+) -> Result<Items<Literal>, TextRefusal>
+    ensures { IfOk result (λ longer. longer ≡ list ++ record { name = name.now; text = words.now } ∷ []) }
+{
+    list.push(Literal {
+        name: text(alloc, name)?,
+        text: text(alloc, words)?,
+    })?;
     Ok(list)
 }
 
-fn enums(alloc: Global) -> Result<Items<EnumDef>, TextRefusal> {
-    let mut literals = Items::new(alloc);
-    literals.push(Literal {
-        name: text(alloc, "Red")?,
-        text: text(alloc, "dark red")?,
-    })?;
-    literals.push(Literal {
-        name: text(alloc, "Green")?,
-        text: text(alloc, "green")?,
-    })?;
+// An enumeration, the only one.
+fn enumeration(
+    alloc: Global,
+    name: &str,
+    literals: Items<Literal>,
+) -> Result<Items<EnumDef>, TextRefusal>
+    ensures { IfOk result (λ list. list ≡ record { name = name.now; literals = literals } ∷ []) }
+{
     let mut list = Items::new(alloc);
     list.push(EnumDef {
-        name: text(alloc, "Color")?,
+        name: text(alloc, name)?,
         literals,
     })?;
     Ok(list)
 }
 
+// Two packages: nodes in the first, leaves, which are nodes, in the second.
 fn nodes(alloc: Global) -> Result<Parts, TextRefusal>
     ensures { IfOk result IsMetamodel }
 {
+    let packages = with_package(alloc, Items::new(alloc), "A", "urn:a")?;
+    let packages = with_package(alloc, packages, "L", "urn:l")?;
+    let classes = with_class(
+        alloc,
+        Items::new(alloc),
+        "Node",
+        0,
+        &[],
+        &[
+            FeatId(0),
+            FeatId(1),
+            FeatId(2),
+            FeatId(3),
+            FeatId(4),
+            FeatId(5),
+            FeatId(6),
+            FeatId(7),
+            FeatId(8),
+            FeatId(9),
+        ],
+    )?;
+    let classes = with_class(alloc, classes, "Leaf", 1, &[ClassId(0)], &[])?;
+    let one = Some(text(alloc, "01")?);
+    let green = Some(text(alloc, "green")?);
+    let up = Some(FeatId(5));
+    let features = with_feature(alloc, Items::new(alloc), "name", FeatKind::Str, false, None)?;
+    let features = with_feature(alloc, features, "count", FeatKind::Int, false, one)?;
+    let features = with_feature(alloc, features, "color", FeatKind::Enum(0), false, green)?;
+    let features = with_feature(alloc, features, "next", refer(false, None), false, None)?;
+    let features = with_feature(alloc, features, "kids", refer(true, up), true, None)?;
+    let features = with_feature(alloc, features, "up", refer(false, Some(KIDS)), false, None)?;
+    let features = with_feature(alloc, features, "tags", FeatKind::Str, true, None)?;
+    let features = with_feature(alloc, features, "heart", refer(true, None), false, None)?;
+    let features = with_feature(alloc, features, "open", FeatKind::Truth, false, None)?;
+    let features = with_feature(alloc, features, "friends", refer(false, None), true, None)?;
+    let literals = with_literal(alloc, Items::new(alloc), "Red", "dark red")?;
+    let literals = with_literal(alloc, literals, "Green", "green")?;
+    let enums = enumeration(alloc, "Color", literals)?;
     Ok(Parts {
-        packages: packages(alloc)?,
-        classes: classes(alloc)?,
-        features: features(alloc)?,
-        enums: enums(alloc)?,
+        packages,
+        classes,
+        features,
+        enums,
         skipped: Items::new(alloc),
     })
 }
@@ -208,7 +238,7 @@ fn words(alloc: Global, texts: &[&str]) -> Result<Slot, TextRefusal> {
     Ok(slot)
 }
 
-// The file without its first line.
+// The file of a model.
 fn file(alloc: Global, model: &Model) -> Result<Text, AllocError> {
     match write_model(alloc, model) {
         Ok(text) => Ok(text),
@@ -236,13 +266,8 @@ fn a_model_without_objects(rt: HostRuntime) -> Result<(), Fail> {
     Ok(())
 }
 
-#[test]
-fn one_root_with_contents(rt: HostRuntime) -> Result<(), Fail> {
-    let alloc = rt.alloc();
-    let mut model = empty(alloc)?;
-    let a = make(&mut model, 0)?;
-    let b = make(&mut model, 1)?;
-    let c = make(&mut model, 0)?;
+// The values of a root, and its references.
+fn fill_root(alloc: Global, model: &mut Model, a: ObjId, b: ObjId, c: ObjId) -> Result<(), Fail> {
     model.write(a, NAME, &words(alloc, &["r<"])?)?;
     model.write(a, COUNT, &one(alloc, Cellv::Int(-7))?)?;
     model.write(a, COLOR, &one(alloc, Cellv::Literal(0))?)?;
@@ -250,10 +275,27 @@ fn one_root_with_contents(rt: HostRuntime) -> Result<(), Fail> {
     model.write(a, KIDS, &objects(alloc, &[b, c])?)?;
     model.write(a, TAGS, &words(alloc, &["x > y", "", "z"])?)?;
     model.write(a, NEXT, &objects(alloc, &[b])?)?;
+    Ok(())
+}
+
+// Those of its contents. What is at its default is not written.
+fn fill_kids(alloc: Global, model: &mut Model, a: ObjId, b: ObjId, c: ObjId) -> Result<(), Fail> {
     model.write(b, NEXT, &objects(alloc, &[a])?)?;
     model.write(b, COUNT, &one(alloc, Cellv::Int(1))?)?;
     model.write(b, COLOR, &one(alloc, Cellv::Literal(1))?)?;
     model.write(c, FRIENDS, &objects(alloc, &[b, c, a])?)?;
+    Ok(())
+}
+
+#[test]
+fn one_root_with_contents(rt: HostRuntime) -> Result<(), Fail> {
+    let alloc = rt.alloc();
+    let mut model = empty(alloc)?;
+    let a = make(&mut model, 0)?;
+    let b = make(&mut model, 1)?;
+    let c = make(&mut model, 0)?;
+    fill_root(alloc, &mut model, a, b, c)?;
+    fill_kids(alloc, &mut model, a, b, c)?;
     assert_eq!(rt;
         file(alloc, &model)?.as_str(),
         "<?xml version=\"1.0\" encoding=\"UTF-8\"?>

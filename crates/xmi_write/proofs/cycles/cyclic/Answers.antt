@@ -23,11 +23,11 @@ returns c =
     let m = c.args.model.now in
     let is = c.loop-steps.invariant.above in
     elim c.loop-steps-test.branch [
-      then-loop-steps-test+else-not-is_free w ↦ (
-        let none : All (λ (o : Option ObjId). o ≡ None) c.loop-steps.above.items =
-        All-same (λ (o : Option ObjId). o ≡ None) c.loop-steps.above.items w.deref.result.now (sym w.deref.ensures.value) (w.is_free.ensures w.if-not-is_free.false) in
-        cyclic_free m c.valid.ensures.metamodel c.valid.ensures.model c.loop-steps.steps c.loop-steps.above.items is none)
-    | else-loop-steps-test w ↦ (
-        let high : length m.objects ≤ c.loop-steps.steps = omega (arith, is.size, c.len.ensures, w.loop-steps-test.false) in
-        cyclic_high m c.valid.ensures.metamodel c.valid.ensures.model c.loop-steps.steps c.loop-steps.above.items is high)
+      | then-loop-steps-test+else-not-is_free w ↦ (
+          let none : All (λ (o : Option ObjId). o ≡ None) c.loop-steps.above.items =
+          All-same (λ (o : Option ObjId). o ≡ None) c.loop-steps.above.items w.deref.result.now (sym w.deref.ensures.value) (w.is_free.ensures w.if-not-is_free.false) in
+          cyclic_free m c.valid.ensures.metamodel c.valid.ensures.model c.loop-steps.steps c.loop-steps.above.items is none)
+      | else-loop-steps-test w ↦ (
+          let high : length m.objects ≤ c.loop-steps.steps = omega (arith, is.size, c.len.ensures, w.loop-steps-test.false) in
+          cyclic_high m c.valid.ensures.metamodel c.valid.ensures.model c.loop-steps.steps c.loop-steps.above.items is high)
     ]
