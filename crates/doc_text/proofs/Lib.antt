@@ -41,3 +41,5 @@ pub mod Running
 pub mod Keys
 pub mod Resolving
 pub mod Declared
+pub mod Sizes
+pub mod ByteSizes

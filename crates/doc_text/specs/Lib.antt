@@ -30,3 +30,4 @@ pub mod Reading
 pub mod ReadBack
 pub mod Answers
 pub mod Stopping
+pub mod Sizes

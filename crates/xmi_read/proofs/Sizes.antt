@@ -2,27 +2,20 @@
 use Rattle.std.proofs.Common.{◌≡◌, ℕ, suc, ◌+◌, ◌≤◌, List, [], ◌∷◌, ◌++◌, length, map, refl, ap, ◌∙◌, arith}
 use Rattle.std.specs.Prelude.{Bool, true, false, ◌&&◌, not, is_some, codes, if◌then◌else◌}
 use Rattle.std.proofs.lemmas.List.{length-append}
-use Rattle.doc_text.specs.declared.tree.Child.{Child, out-Child, map-Child, fold_out-Child}
+use Rattle.doc_text.specs.declared.tree.Child.{Child, out-Child, map-Child}
 use Rattle.doc_text.specs.declared.tree.Child.TheOpen as layer
 use Rattle.doc_text.specs.declared.tree.Doc.{Doc}
-use Rattle.doc_text.specs.declared.tree.Element.{Element, fold_out-Element}
+use Rattle.doc_text.specs.declared.tree.Element.{Element}
 use Rattle.doc_text.specs.declared.tree.Prefix.{Prefix}
 use Rattle.xmi_read.specs.Markup.{Site, site, given, is_typed, elements_in, sub_elements}
 use Rattle.xmi_read.specs.Outline.{Entry, Role, entry, Literal, Attribute, Reference, SkippedAttribute, SkippedReference, Super, TypeOf, SkippedType, SubPackage, Stray, is_named, is_quiet, is_skipped, has_type, other_children, feature_children, feature_outline, feature, class_children, enum_children, classifier, package_children, package_outline, is_package, is_around, around_children, outline}
-use Rattle.xmi_read.specs.Sizes.{total, child_layer, size_layer, size_of_element, size_of_child, size}
+use Rattle.doc_text.specs.Sizes.{total, child_layer, size_layer, size_of_element, size_of_child, size}
+use Rattle.doc_text.proofs.Sizes.{element_is, child_is}
 
 -- ## The size of an element, by those in it
 
 abbrev all : List Element → ℕ
 all es = total (map size_of_element es)
-
-element_is : (e : Element) → size_of_element e ≡ suc (length e.attributes + total (map size_of_child e.children))
-unfolding size_of_element size_of_child
-element_is e = fold_out-Element ℕ ℕ child_layer size_layer e
-
-child_is : (c : Child) → size_of_child c ≡ child_layer (map-Child Child Element ℕ ℕ size_of_child size_of_element (out-Child c))
-unfolding size_of_element size_of_child
-child_is c = fold_out-Child ℕ ℕ child_layer size_layer c
 
 children_are : (cs : List Child) → total (map size_of_child cs) ≡ all (sub_elements cs)
 children_are [] = refl

@@ -5,7 +5,7 @@ ghost use Rattle.ecore_meta.specs.Valid.{IsMetamodel};
 ghost use Rattle.xmi_read.specs.Outline.{outline};
 ghost use Rattle.xmi_read.specs.Faults.{first_fault};
 ghost use Rattle.xmi_read.specs.Parts.{parts_of};
-ghost use Rattle.xmi_read.specs.Sizes.{size};
+ghost use Rattle.doc_text.specs.Sizes.{size};
 
 /// A file in which nothing is wrong stands for a metamodel.
 pub fn file_without_faults_is_a_metamodel()
