@@ -22,7 +22,7 @@ mod Readings
 mod Places
 mod Rising
 mod RisingRoots
-mod RowObjects
+mod RowValues
 mod Appending
 mod SameHolders
 mod Trees

@@ -33,7 +33,7 @@ pub fn same_value(a: &Cellv, b: &Cellv) -> bool
 }
 
 // Whether a slot has a value.
-fn has_value(cells: &[Cellv], value: &Cellv) -> bool
+pub(crate) fn has_value(cells: &[Cellv], value: &Cellv) -> bool
     ensures { result ≡ list_any (same_value value.now) cells.now }
 {
     cells.iter().any(|cell| same_value(value, cell))
@@ -44,10 +44,10 @@ fn append_value(alloc: Global, unique: bool, row: &mut Row, value: &Cellv) -> Re
     ensures ok { OnOk result (row.new ≡ with_value unique row.old value.now) }
     ensures kept { take (length row.old) row.new ≡ row.old }
 {
-    if unique && has_value(row.as_slice(), value) {
+    if unique && row.has(value) {
         return Ok(());
     }
-    row.push(alloc, copy_value(alloc, value)?, false)
+    row.push(alloc, copy_value(alloc, value)?, unique)
 }
 
 // The values of a slot, and others after them. After a refusal some of them stand there.

@@ -11,6 +11,7 @@ mod guesses;
 pub mod held;
 pub mod laws;
 pub mod lookups;
+mod met;
 pub mod model;
 mod order;
 mod pairs;

@@ -1,70 +1,61 @@
-// A slot as the store keeps it. Where a reference has neither an opposite nor contains, nothing else tells whether it holds an object:
-// so the numbers of its objects are kept, once there are many.
-ghost use Rattle.std.specs.Prelude.{◌≡◌, ◌++◌, ◌∷◌, ◌||◌, [], ℕ, List, nat_eq, IfOk, OnOk, OnErr, MatchOption};
-ghost use Rattle.std.specs.HashSet.{contains};
+// A slot as the store keeps it. Where nothing else tells whether it has a value, and a write has to know, its values are kept as a set too,
+// once there are many.
+ghost use Rattle.std.specs.Prelude.{◌≡◌, ◌++◌, ◌∷◌, [], List, IfOk, IfSome, OnOk, OnErr, MatchOption};
+ghost use Rattle.std.specs.List.{list_any};
 ghost use Rattle.model_store.specs.declared.parts.Cellv.{Cellv};
-ghost use Rattle.model_store.specs.Contents.{holds, refers_to};
-ghost use Rattle.model_store.specs.Rows.{has_number};
+ghost use Rattle.model_store.specs.Contents.{holds};
+ghost use Rattle.model_store.specs.Rows.{Knows};
+ghost use Rattle.model_store.specs.Writes.{same_value};
 
+use crate::attributes::has_value;
 use crate::copies::copy_slot;
-use crate::lookups::holds;
+use crate::met::{Met, has, met_in, note};
 use crate::parts::{Cellv, Slot};
 use atl_base::numbers::ObjId;
 use std::alloc::{AllocError, Global};
-use std::collections::HashSet;
 
 /// The values of one feature of one object, as the store keeps them. Contracts see it as the values.
 #[derive(Debug, Drop)]
 pub struct Row {
     cells: Slot,
-    met: Option<Box<HashSet<u32>>>,
+    met: Option<Box<Met>>,
 }
 
 impl std::marker::Model for Row {
-    ghost use Rattle.std.specs.Prelude.{◌≡◌, ℕ, List};
+    ghost use Rattle.std.specs.Prelude.{List, IfSome};
     ghost use Rattle.model_store.specs.declared.parts.Cellv.{Cellv};
-    ghost use Rattle.model_store.specs.Contents.{holds};
-    ghost use Rattle.model_store.specs.Rows.{has_number};
+    ghost use Rattle.model_store.specs.Rows.{Knows};
 
     ghost Value = { List Cellv };
 
     ghost view = { λ r. r.cells };
 
-    ghost invariant = { λ r. (q : ℕ) → has_number r.met r.cells q ≡ holds (record { 0 = q }) r.cells };
+    ghost invariant = { λ r. IfSome r.met (λ met. Knows met.value r.cells) };
 }
 
-// So many objects are many.
+// So many values are many.
 const MANY: usize = 64;
 
-// Notes the object that a value is.
-fn note(met: &mut HashSet<u32>, value: &Cellv) -> Result<(), AllocError>
-    ensures { OnOk result ((q : ℕ) → contains nat_eq met.new q ≡ (refers_to (record { 0 = q }) value.now || contains nat_eq met.old q)) }
-{
-    if let Cellv::Obj(p) = value {
-        let _ = met.insert(p.0)?;
-    }
-    Ok(())
-}
-
-// The numbers of the objects of a slot.
-fn met_in(alloc: Global, cells: &[Cellv]) -> Result<Box<HashSet<u32>>, AllocError>
-    ensures { IfOk result (λ met. (q : ℕ) → contains nat_eq met.value q ≡ holds (record { 0 = q }) cells.now) }
-{
-    let mut met = HashSet::new(alloc);
-    for cell in cells {
-        note(&mut met, cell)?;
-    }
-    Ok(Box::new(alloc, met)?)
-}
-
-// Notes the object that one value more is, where they are noted.
-fn note_more(met: &mut Option<Box<HashSet<u32>>>, value: &Cellv) -> Result<(), AllocError>
-    ensures { OnOk result ((cells : List Cellv) → ((q : ℕ) → has_number met.old cells q ≡ holds (record { 0 = q }) cells)
-        → (q : ℕ) → has_number met.new (cells ++ value.now ∷ []) q ≡ holds (record { 0 = q }) (cells ++ value.now ∷ [])) }
+// Notes one value more, where they are noted.
+fn note_more(alloc: Global, met: &mut Option<Box<Met>>, value: &Cellv) -> Result<(), AllocError>
+    ensures { OnOk result ((cells : List Cellv) → IfSome met.old (λ met. Knows met.value cells) → IfSome met.new (λ met. Knows met.value (cells ++ value.now ∷ []))) }
 {
     match met {
-        Some(met) => note(met, value),
+        Some(met) => note(alloc, met, value),
         None => Ok(()),
+    }
+}
+
+// The values of the sort of one, where they are many.
+fn learned(alloc: Global, cells: &[Cellv], sort: &Cellv) -> Result<Option<Box<Met>>, AllocError>
+    ensures { IfOk result (λ found. IfSome found (λ met. Knows met.value cells.now)) }
+{
+    if cells.len() < MANY {
+        return Ok(None);
+    }
+    match met_in(alloc, cells, sort)? {
+        Some(met) => Ok(Some(Box::new(alloc, met)?)),
+        None => Ok(None),
     }
 }
 
@@ -89,33 +80,41 @@ impl Row {
         &self.cells
     }
 
-    // Whether it holds an object.
-    pub(crate) fn holds(&self, p: ObjId) -> bool
-        ensures { result ≡ holds p self.now }
+    // Whether it has a value.
+    pub(crate) fn has(&self, value: &Cellv) -> bool
+        ensures { result ≡ list_any (same_value value.now) self.now }
     {
         match &self.met {
-            Some(met) => met.contains(&p.0),
-            None => holds(self.cells.as_slice(), p),
+            Some(met) => has(met, self.cells.as_slice(), value),
+            None => has_value(self.cells.as_slice(), value),
         }
     }
 
-    // Keeps the numbers of its objects, if there are many.
-    fn learn(&mut self, alloc: Global) -> Result<(), AllocError>
+    // Whether it holds an object.
+    #[tactic(auto, using(crate::proofs::RowValues::holds_by_values))]
+    pub(crate) fn holds(&self, p: ObjId) -> bool
+        ensures { result ≡ holds p self.now }
+    {
+        self.has(&Cellv::Obj(p))
+    }
+
+    // Keeps its values of the sort of one, if there are many.
+    fn learn(&mut self, alloc: Global, sort: &Cellv) -> Result<(), AllocError>
         ensures { self.new ≡ self.old }
     {
-        if self.met.is_none() && self.cells.len() >= MANY {
-            let met = met_in(alloc, self.cells.as_slice())?;
-            self.met = Some(met);
+        if self.met.is_none() {
+            let met = learned(alloc, self.cells.as_slice(), sort)?;
+            self.met = met;
         }
         Ok(())
     }
 
     // A value more.
-    fn push_noted(&mut self, value: Cellv) -> Result<(), AllocError>
+    fn push_noted(&mut self, alloc: Global, value: Cellv) -> Result<(), AllocError>
         ensures ok { OnOk result (self.new ≡ self.old ++ value ∷ []) }
         ensures err { OnErr result (self.new ≡ self.old) }
     {
-        if let Err(refused) = note_more(&mut self.met, &value) {
+        if let Err(refused) = note_more(alloc, &mut self.met, &value) {
             self.met = None;
             return Err(refused);
         }
@@ -126,15 +125,15 @@ impl Row {
         Ok(())
     }
 
-    // A value more, and whether the numbers are to be kept.
+    // A value more, and whether its values are to be kept.
     pub(crate) fn push(&mut self, alloc: Global, value: Cellv, keep: bool) -> Result<(), AllocError>
         ensures ok { OnOk result (self.new ≡ self.old ++ value ∷ []) }
         ensures err { OnErr result (self.new ≡ self.old) }
     {
         if keep {
-            self.learn(alloc)?;
+            self.learn(alloc, &value)?;
         }
-        self.push_noted(value)
+        self.push_noted(alloc, value)
     }
 
     // The last value less.
