@@ -45,3 +45,4 @@ pub mod LiteralKeys
 pub mod Classified
 pub mod SeenBefore
 pub mod SeenRows
+pub mod SameDeclarations

@@ -95,6 +95,18 @@ found_at t g (x ∷ xs) = by (t x) (found_at t g xs)
     by true h = refl
     by false h = h ∙ later (position_from t 0 xs) ∙ ap (λ o. then_ o (slice_get (g x ∷ map g xs))) (sym (next t 0 xs))
 
+pub first_at : {X : Type 0} (t : X → Bool) (xs : List X) → find t xs ≡ then_ (position_from t 0 xs) (slice_get xs)
+first_at t [] = refl
+first_at t (x ∷ xs) = by (t x) (first_at t xs)
+  where
+    later : (o : Option ℕ) → then_ o (slice_get xs) ≡ then_ (option_map suc o) (slice_get (x ∷ xs))
+    later None = refl
+    later (Some k) = refl
+
+    by : (b : Bool) → find t xs ≡ then_ (position_from t 0 xs) (slice_get xs) → cond b (Some x) (find t xs) ≡ then_ (cond b (Some 0) (position_from t 1 xs)) (slice_get (x ∷ xs))
+    by true h = refl
+    by false h = h ∙ later (position_from t 0 xs) ∙ ap (λ o. then_ o (slice_get (x ∷ xs))) (sym (next t 0 xs))
+
 -- whether there is one
 pub position_any : {X : Type 0} (t : X → Bool) (i : ℕ) (xs : List X) → is_some (position_from t i xs) ≡ list_any t xs
 position_any t i [] = refl

@@ -2,6 +2,7 @@
 use Rattle.std.specs.Prelude.{◌≡◌, ℕ, ◌==◌, ◌&&◌, Bool, List, map, bytes_eq, Option}
 use Rattle.std.specs.HashMap.{HashMap, get_by}
 use Rattle.std.specs.List.{position_from}
+use Rattle.doc_text.specs.declared.tree.Prefix.{Prefix}
 use Rattle.xmi_read.specs.declared.keys.Key.{Key as CodeKey}
 
 abbrev pub Key : Type 0
@@ -27,3 +28,7 @@ has_place places n q = get_by (λ k. n == k.number && bytes_eq q k.text.now) pla
 -- a table says of each key where it stands first
 abbrev pub AreFirsts : {S : Type 0} → HashMap CodeKey ℕ S → List Key → Type 0
 AreFirsts places keys = (n : ℕ) (q : List ℕ) → has_place places n q ≡ place_of n q keys
+
+-- what a namespace declaration is found by
+abbrev pub prefix_key : Prefix → Key
+prefix_key d = (0, d.prefix)

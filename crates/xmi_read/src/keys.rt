@@ -7,7 +7,7 @@ use std::collections::HashMap;
 
 /// A name within what bears this number.
 #[derive(Clone, Copy, Debug, PartialEq, Eq, Hash, Drop)]
-pub(crate) struct Key<'a> {
+pub struct Key<'a> {
     pub number: usize,
     pub text: &'a [u8],
 }
@@ -25,7 +25,7 @@ fn note<'a>(
 }
 
 /// Where each of these keys stands first.
-pub(crate) fn first_places<'a>(
+pub fn first_places<'a>(
     alloc: Global,
     keys: &[Key<'a>],
 ) -> Result<HashMap<Key<'a>, usize>, AllocError>
@@ -40,11 +40,7 @@ pub(crate) fn first_places<'a>(
 }
 
 /// Where a key stands first.
-pub(crate) fn first_place(
-    places: &HashMap<Key<'_>, usize>,
-    number: usize,
-    text: &[u8],
-) -> Option<usize>
+pub fn first_place(places: &HashMap<Key<'_>, usize>, number: usize, text: &[u8]) -> Option<usize>
     ensures { result ≡ has_place places.now number text.now }
 {
     match places.get(&Key { number, text }) {

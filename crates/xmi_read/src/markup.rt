@@ -12,9 +12,10 @@ use doc_text::tree::{Attribute, Child, Element};
 pub(crate) const ECORE: &str = "http://www.eclipse.org/emf/2002/Ecore";
 
 /// The namespace of `xsi:type`.
-pub(crate) const XSI: &str = "http://www.w3.org/2001/XMLSchema-instance";
+pub const XSI: &str = "http://www.w3.org/2001/XMLSchema-instance";
 
-fn is_called(space: &str, name: &str, attribute: &Attribute) -> bool
+/// Whether an attribute is in this namespace and has this name.
+pub fn is_called(space: &str, name: &str, attribute: &Attribute) -> bool
     ensures { result ≡ is_called_of space.now name.now attribute.now }
 {
     attribute.space.as_str() == space && attribute.name.as_str() == name
@@ -32,7 +33,7 @@ fn called<'a>(space: &str, name: &str, element: &'a Element) -> Option<&'a Attri
 }
 
 /// The value of an attribute of this namespace and name.
-pub(crate) fn given_in<'a>(space: &str, name: &str, element: &'a Element) -> Option<&'a Text>
+pub fn given_in<'a>(space: &str, name: &str, element: &'a Element) -> Option<&'a Text>
     ensures { option_copied result ≡ given_in_of space.now name.now element.now }
 {
     match called(space, name, element) {
@@ -78,13 +79,15 @@ pub(crate) fn is_bad_flag(element: &Element, name: &str) -> bool
     }
 }
 
-pub(crate) fn is_blank(b: u8) -> bool
+/// Whether a byte is a space, a tab, a carriage return or a line feed.
+pub fn is_blank(b: u8) -> bool
     ensures { result ≡ is_blank_of b }
 {
     b == b' ' || b == b'\t' || b == b'\n' || b == b'\r'
 }
 
-fn is_all_blank(bytes: &[u8]) -> bool
+/// Whether all of a text is blank.
+pub fn is_all_blank(bytes: &[u8]) -> bool
     ensures { result ≡ list_all is_blank_of bytes.now }
 {
     bytes.iter().all(|b| is_blank(*b))
@@ -100,7 +103,7 @@ fn is_loud(child: &Child) -> bool
 }
 
 /// Whether text that is not blank stands in an element.
-pub(crate) fn has_text(element: &Element) -> bool
+pub fn has_text(element: &Element) -> bool
     ensures { result ≡ has_text_of element.now }
 {
     element.children.as_slice().iter().any(|c| is_loud(c))

@@ -83,7 +83,7 @@ pub(crate) fn is_many_upper(text: &[u8]) -> bool
 }
 
 /// Whether a text is a signed number of 64 bits.
-pub(crate) fn is_int_text(text: &[u8]) -> bool
+pub fn is_int_text(text: &[u8]) -> bool
     ensures { result ≡ is_int_text_of text.now }
 {
     if text.is_empty() {

@@ -7,6 +7,7 @@ ghost use Rattle.xmi_read.specs.Outline.{is_package as is_package_of, is_around 
 ghost use Rattle.xmi_read.specs.Outline.{is_named as is_named_of, is_passed as is_passed_of, is_generic as is_generic_of, is_quiet as is_quiet_of, is_skipped as is_skipped_of, has_type as has_type_of};
 ghost use Rattle.xmi_read.specs.Entries.{scope_of, entries_of, Leaves1, Leaves2, Leaves3, Leaves4, Leaves5};
 
+use crate::level::Levels;
 use crate::markup::{ECORE, flag, given};
 use crate::scope::{Scope, is_typed, root_scope, within};
 use doc_text::XMI;
@@ -451,12 +452,16 @@ fn push_around_children<'a>(
 }
 
 /// The outline of a document.
-pub(crate) fn outline(alloc: Global, doc: &Doc) -> Result<Vec<Entry<'_>>, AllocError>
+pub(crate) fn outline<'a>(
+    alloc: Global,
+    doc: &'a Doc,
+    levels: &'a Levels<'a>,
+) -> Result<Vec<Entry<'a>>, AllocError>
     ensures { IfOk result (λ file. entries_of file.items ≡ outline_of doc.now) }
 {
     let mut out = Vec::new(alloc);
     let root = &doc.root;
-    push_root(&mut out, root, root_scope(root))?;
+    push_root(&mut out, root, root_scope(levels, root))?;
     Ok(out)
 }
 

@@ -16,11 +16,13 @@ use crate::features::features;
 use crate::file::File;
 use crate::first_fault::first_fault;
 use crate::known_text::know_texts;
+use crate::level::{Levels, levels_in};
 use crate::outline::outline;
 use crate::packages::packages;
 use crate::reach::super_numbers;
 use crate::refusal::MetaRefusal;
 use crate::rows::{class_rows, feature_rows};
+use crate::scope::DEEPEST;
 use crate::skipped::skipped;
 use crate::text::text_of;
 use doc_text::tree::Doc;
@@ -82,14 +84,26 @@ fn metamodel_of(alloc: Global, file: &File<'_>) -> Result<Metamodel, AllocError>
 }
 
 // The file of a document, whose texts are known to be texts.
-fn file_of(alloc: Global, doc: &Doc) -> Result<File<'_>, AllocError>
+fn file_of<'a>(alloc: Global, doc: &'a Doc, levels: &'a Levels<'a>) -> Result<File<'a>, AllocError>
     ensures outline { IfOk result (λ file. entries_of file ≡ outline_of doc.now) }
     ensures texts { IfOk result (λ file. AreTexts (entries_of file)) }
 {
-    let entries = outline(alloc, doc)?;
+    let entries = outline(alloc, doc, levels)?;
     know_texts(&entries);
     let file = File::new(alloc, entries)?;
     Ok(file)
+}
+
+// The answer, from the tables of the document's declarations.
+fn read_with<'a>(alloc: Global, doc: &'a Doc, levels: &Levels<'a>) -> Result<Metamodel, MetaRefusal>
+    requires { length (outline_of doc.now) ≤ 4294967294 }
+    ensures { IsMetaAnswer doc.now result }
+{
+    let file = file_of(alloc, doc, levels)?;
+    match first_fault(alloc, &file)? {
+        Some(found) => Err(refusal_of(alloc, &found)),
+        None => Ok(metamodel_of(alloc, &file)?),
+    }
 }
 
 /// The metamodel that a document stands for, or the first thing that is wrong in it, in document order. The outline is
@@ -98,11 +112,8 @@ pub fn read_metamodel(alloc: Global, doc: &Doc) -> Result<Metamodel, MetaRefusal
     requires { length (outline_of doc.now) ≤ 4294967294 }
     ensures { IsMetaAnswer doc.now result }
 {
-    let file = file_of(alloc, doc)?;
-    match first_fault(alloc, &file)? {
-        Some(found) => Err(refusal_of(alloc, &found)),
-        None => Ok(metamodel_of(alloc, &file)?),
-    }
+    let levels = levels_in(alloc, &doc.root, DEEPEST)?;
+    read_with(alloc, doc, &levels)
 }
 
 #[cfg(test)]

@@ -18,7 +18,7 @@ fn has_hash(text: &[u8]) -> bool
 }
 
 /// Whether a reference names a file.
-pub(crate) fn names_file(text: &[u8]) -> bool
+pub fn names_file(text: &[u8]) -> bool
     ensures { result ≡ names_file_of text.now }
 {
     if text.is_empty() {

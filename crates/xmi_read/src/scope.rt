@@ -2,36 +2,42 @@
 ghost use Rattle.std.specs.Prelude.{◌≡◌, false, [], ◌++◌, find, bytes_eq};
 ghost use Rattle.std.specs.Option.{option_copied, option_or, option_map_or};
 ghost use Rattle.xmi_read.specs.Markup.{is_text, ecore_space, uri_in, names_local as names_local_of, names as names_of, is_typed as is_typed_of};
-ghost use Rattle.xmi_read.specs.Entries.{scope_of, Leaves1, Leaves5};
+ghost use Rattle.xmi_read.specs.Entries.{declared_of, scope_of, Leaves1, Leaves5};
 
 use crate::cut::place_of;
+use crate::level::{Declared, Levels, declared_by, declared_in};
 use crate::markup::{ECORE, XSI, given_in};
 use doc_text::tree::{Element, Prefix};
+
+/// No element of the outline stands deeper.
+pub(crate) const DEEPEST: usize = 6;
 
 /// The declarations that are in force at an element: its own, its parent's, and so on. None of the outline stands
 /// deeper than six.
 #[derive(Clone, Copy)]
 pub(crate) struct Scope<'a> {
-    pub first: &'a [Prefix],
-    pub second: &'a [Prefix],
-    pub third: &'a [Prefix],
-    pub fourth: &'a [Prefix],
-    pub fifth: &'a [Prefix],
-    pub sixth: &'a [Prefix],
+    pub levels: &'a Levels<'a>,
+    pub first: Declared<'a>,
+    pub second: Declared<'a>,
+    pub third: Declared<'a>,
+    pub fourth: Declared<'a>,
+    pub fifth: Declared<'a>,
+    pub sixth: Declared<'a>,
 }
 
 /// The declarations in force at an element below.
 pub(crate) fn within<'a>(outer: Scope<'a>, element: &'a Element) -> Scope<'a>
     requires { Leaves1 outer }
     ensures scope { scope_of result ≡ element.now.declared ++ scope_of outer.entry }
-    ensures second { result.second.now ≡ outer.entry.first.now }
-    ensures third { result.third.now ≡ outer.entry.second.now }
-    ensures fourth { result.fourth.now ≡ outer.entry.third.now }
-    ensures fifth { result.fifth.now ≡ outer.entry.fourth.now }
-    ensures sixth { result.sixth.now ≡ outer.entry.fifth.now }
+    ensures second { declared_of result.second ≡ declared_of outer.entry.first }
+    ensures third { declared_of result.third ≡ declared_of outer.entry.second }
+    ensures fourth { declared_of result.fourth ≡ declared_of outer.entry.third }
+    ensures fifth { declared_of result.fifth ≡ declared_of outer.entry.fourth }
+    ensures sixth { declared_of result.sixth ≡ declared_of outer.entry.fifth }
 {
     Scope {
-        first: element.declared.as_slice(),
+        levels: outer.levels,
+        first: declared_by(outer.levels, element),
         second: outer.first,
         third: outer.second,
         fourth: outer.third,
@@ -41,33 +47,28 @@ pub(crate) fn within<'a>(outer: Scope<'a>, element: &'a Element) -> Scope<'a>
 }
 
 /// The declarations in force at the root.
-pub(crate) fn root_scope<'a>(root: &'a Element) -> Scope<'a>
+pub(crate) fn root_scope<'a>(levels: &'a Levels<'a>, root: &'a Element) -> Scope<'a>
     ensures scope { scope_of result ≡ root.now.declared ++ [] }
     ensures leaves { Leaves5 result }
 {
     Scope {
-        first: root.declared.as_slice(),
-        second: &[],
-        third: &[],
-        fourth: &[],
-        fifth: &[],
-        sixth: &[],
+        levels,
+        first: declared_by(levels, root),
+        second: Declared::Few(&[]),
+        third: Declared::Few(&[]),
+        fourth: Declared::Few(&[]),
+        fifth: Declared::Few(&[]),
+        sixth: Declared::Few(&[]),
     }
-}
-
-fn declared_in<'a>(declared: &'a [Prefix], prefix: &[u8]) -> Option<&'a Prefix>
-    ensures { option_copied result ≡ find (λ d. bytes_eq d.prefix prefix.now) declared.now }
-{
-    declared.iter().find(|d| d.prefix.bytes() == prefix)
 }
 
 // What is found already, or else the first here.
 fn or_declared<'a>(
     inner: Option<&'a Prefix>,
-    outer: &'a [Prefix],
+    outer: &Declared<'a>,
     prefix: &[u8],
 ) -> Option<&'a Prefix>
-    ensures { option_copied result ≡ option_or (option_copied inner.entry) (find (λ d. bytes_eq d.prefix prefix.now) outer.now) }
+    ensures { option_copied result ≡ option_or (option_copied inner.entry) (find (λ d. bytes_eq d.prefix prefix.now) (declared_of outer.now)) }
 {
     match inner {
         Some(found) => Some(found),
@@ -79,12 +80,12 @@ fn or_declared<'a>(
 fn declared<'a>(scope: &Scope<'a>, prefix: &[u8]) -> Option<&'a Prefix>
     ensures { option_copied result ≡ find (λ d. bytes_eq d.prefix prefix.now) (scope_of scope.now) }
 {
-    let one = declared_in(scope.first, prefix);
-    let two = or_declared(one, scope.second, prefix);
-    let three = or_declared(two, scope.third, prefix);
-    let four = or_declared(three, scope.fourth, prefix);
-    let five = or_declared(four, scope.fifth, prefix);
-    or_declared(five, scope.sixth, prefix)
+    let one = declared_in(&scope.first, prefix);
+    let two = or_declared(one, &scope.second, prefix);
+    let three = or_declared(two, &scope.third, prefix);
+    let four = or_declared(three, &scope.fourth, prefix);
+    let five = or_declared(four, &scope.fifth, prefix);
+    or_declared(five, &scope.sixth, prefix)
 }
 
 // Whether a prefix stands for Ecore's namespace.

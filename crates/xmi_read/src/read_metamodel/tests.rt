@@ -2,8 +2,10 @@
 ghost use Rattle.std.specs.Prelude.{IfOk, IsTrue, ◌≤◌, length};
 ghost use Rattle.xmi_read.specs.Outline.{outline as outline_of};
 
+use crate::level::{Levels, levels_in};
 use crate::outline::outline;
 use crate::read_metamodel::read_metamodel;
+use crate::scope::DEEPEST;
 use doc_text::read_doc;
 use doc_text::tree::Doc;
 use shown::{show_parts, show_refusal};
@@ -14,11 +16,18 @@ mod examples;
 mod refusals;
 mod shown;
 
+fn is_small_with<'a>(alloc: Global, doc: &'a Doc, levels: &Levels<'a>) -> Result<bool, AllocError>
+    ensures { IfOk result (λ is. IsTrue is → length (outline_of doc.now) ≤ 4294967294) }
+{
+    let file = outline(alloc, doc, levels)?;
+    Ok(file.len() <= 4294967294)
+}
+
 fn is_small(alloc: Global, doc: &Doc) -> Result<bool, AllocError>
     ensures { IfOk result (λ is. IsTrue is → length (outline_of doc.now) ≤ 4294967294) }
 {
-    let file = outline(alloc, doc)?;
-    Ok(file.len() <= 4294967294)
+    let levels = levels_in(alloc, &doc.root, DEEPEST)?;
+    is_small_with(alloc, doc, &levels)
 }
 
 // What is read of a document, a line for each item, or the refusal.

@@ -42,6 +42,19 @@ fn boxes(rt: HostRuntime) -> Result<(), Fail> {
 }
 
 #[test]
+fn a_prefix_is_found_among_many(rt: HostRuntime) -> Result<(), Fail> {
+    let shown = read_package(
+        rt.alloc(),
+        "name=\"D\" nsURI=\"D\" nsPrefix=\"D\">\n<eClassifiers xmlns:p0=\"http://www.eclipse.org/emf/2002/Ecore\" xmlns:p1=\"http://www.eclipse.org/emf/2002/Ecore\" xmlns:p2=\"http://www.eclipse.org/emf/2002/Ecore\" xmlns:p3=\"http://www.eclipse.org/emf/2002/Ecore\" xmlns:p4=\"http://www.eclipse.org/emf/2002/Ecore\" xmlns:p5=\"http://other\" xmlns:p6=\"http://www.eclipse.org/emf/2002/Ecore\" xmlns:p7=\"http://www.eclipse.org/emf/2002/Ecore\" xmlns:p8=\"http://www.eclipse.org/emf/2002/Ecore\" xmlns:p9=\"http://www.eclipse.org/emf/2002/Ecore\" xmlns:p10=\"http://www.eclipse.org/emf/2002/Ecore\" xmlns:p11=\"http://www.eclipse.org/emf/2002/Ecore\" xmlns:p12=\"http://www.eclipse.org/emf/2002/Ecore\" xmlns:p13=\"http://www.eclipse.org/emf/2002/Ecore\" xmlns:p14=\"http://www.eclipse.org/emf/2002/Ecore\" xmlns:p15=\"http://www.eclipse.org/emf/2002/Ecore\" xmlns:p16=\"http://www.eclipse.org/emf/2002/Ecore\" xmlns:p17=\"http://www.eclipse.org/emf/2002/Ecore\" xsi:type=\"p3:EClass\" name=\"Item\">\n<eStructuralFeatures xsi:type=\"p17:EAttribute\" name=\"label\" eType=\"p9:EDataType http://www.eclipse.org/emf/2002/Ecore#//EString\"/>\n<eStructuralFeatures xsi:type=\"ecore:EReference\" name=\"link\" eType=\"#//Item\"/>\n</eClassifiers>\n",
+    )?;
+    assert_eq!(rt;
+        shown.as_str(),
+        "package D D D\nclass Item in 0 of with 0 1\nfeature label of 0: Str\nfeature link of 0: refers to 0\n"
+    );
+    Ok(())
+}
+
+#[test]
 fn families_are_read(rt: HostRuntime) -> Result<(), Fail> {
     let shown = read_package(
         rt.alloc(),

@@ -7,7 +7,7 @@ use Rattle.xmi_read.specs.Entries.{entries_of}
 use Rattle.xmi_read.specs.FoundFaults.{fault_of, told}
 use Rattle.xmi_read.proofs.FaultTexts.{value_is_xml}
 use Rattle.xmi_read.proofs.Valid.{outline_valid}
-use Rattle.xmi_read.proofs.read_metamodel.read_metamodel.Goals as goal
+use Rattle.xmi_read.proofs.read_metamodel.read_with.Goals as goal
 
 pub refusal_of-requires : goal.refusal_of-requires
 refusal_of-requires c =
