@@ -1,0 +1,4 @@
+pub mod Inheriting
+pub mod TableLaws
+pub mod FeatureNames
+pub mod SkippedLaws
