@@ -3,6 +3,7 @@ mod Climbing
 mod Counted
 mod Cuts
 pub mod Digits
+mod SignedTexts
 mod Exchanges
 mod Folded
 mod Holders

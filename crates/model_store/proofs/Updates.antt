@@ -14,6 +14,7 @@ use Rattle.model_store.specs.declared.parts.Cellv.{Cellv}
 use Rattle.model_store.specs.declared.parts.Object.{Object}
 use Rattle.atl_base.specs.declared.numbers.ClassId.{ClassId}
 use Rattle.ecore_meta.specs.Inheritance.{features}
+use Rattle.model_store.specs.Sketches.{blank}
 use Rattle.model_store.specs.Writes.{fresh, initial}
 use Rattle.model_store.specs.Contents.{Contents, IsShaped, AreShaped, HasPlace, object_at, object_count, place_in, with_slot, set_slot}
 
@@ -94,3 +95,11 @@ pub counted_all : (xs : List Object) → object_count (map Some xs) ≡ length x
 counted_all xs =
     let places : List (Option Object) = map Some xs in
     sym (length-filter is_some places) ∙ ap length (all_kept xs) ∙ length-map xs Some
+
+-- ## Empty slots
+
+pub blank_shaped : (meta : Parts) (class : ClassId) → class.0 < length meta.classes → IsShaped meta (blank meta class)
+blank_shaped meta class h = record { class_within = h; slots = length-map (features meta.classes class) (λ f. no_cells) }
+  where
+    no_cells : List Cellv
+    no_cells = []

@@ -7,6 +7,7 @@ pub mod Order
 pub mod Paths
 pub mod Roots
 pub mod Rows
+pub mod Sketches
 pub mod Texts
 pub mod Valid
 pub mod Writes

@@ -20,10 +20,15 @@ abbrev pub literal_text : Parts → FeatKind → ℕ → List ℕ
 literal_text meta (Kind.Enum e) l = option_map_or (λ d. option_map_or (λ literal. literal.text) (slice_get d.literals l) []) (slice_get meta.enums e) []
 literal_text meta kind l = []
 
+-- the text of an attribute's value
+abbrev pub plain_text : Parts → FeatId → Cellv → List ℕ
+plain_text meta f (Words text) = text
+plain_text meta f (Int n) = signed_decimal n
+plain_text meta f (Truth b) = truth_text b
+plain_text meta f (Literal l) = option_map_or (λ feature. literal_text meta feature.kind l) (slice_get meta.features f.0) []
+plain_text meta f (Obj o) = []
+
 -- the text of a feature's value; of an object its path
 abbrev pub value_text : Contents → FeatId → Cellv → List ℕ
-value_text m f (Words text) = text
-value_text m f (Int n) = signed_decimal n
-value_text m f (Truth b) = truth_text b
-value_text m f (Literal l) = option_map_or (λ feature. literal_text m.meta feature.kind l) (slice_get m.meta.features f.0) []
 value_text m f (Obj o) = path m o
+value_text m f value = plain_text m.meta f value

@@ -4,6 +4,7 @@ ghost use Rattle.std.specs.List.{list_any};
 ghost use Rattle.std.specs.Str.{bytes_eq};
 ghost use Rattle.std.specs.Str.Parse.{signed_digits_value};
 ghost use Rattle.ecore_meta.specs.Valid.{IsTextOf, IsIntText};
+ghost use Rattle.model_store.specs.Sketches.{blank};
 ghost use Rattle.model_store.specs.Writes.{same_value, with_value, appended, replaced, initial, value_of_text, literal_number, literal_of, fresh};
 
 use crate::copies::copy_value;
@@ -133,8 +134,8 @@ fn number_of(text: &str) -> i64
     }
 }
 
-// The value that a text of an attribute's type stands for.
-fn value_of_text(
+/// The value that a text of an attribute's type stands for.
+pub fn value_of_text(
     alloc: Global,
     meta: &Metamodel,
     kind: FeatKind,
@@ -174,6 +175,19 @@ pub fn initial(alloc: Global, meta: &Metamodel, f: FeatId) -> Result<Slot, Alloc
         Some(text) => single(alloc, value_of_text(alloc, meta, feature.kind, text)?),
         None => Ok(Items::new(alloc)),
     }
+}
+
+// An object with empty slots.
+pub(crate) fn blank(alloc: Global, meta: &Metamodel, class: ClassId) -> Result<Held, AllocError>
+    requires { class.0 < length meta.now.classes }
+    ensures { IfOk result (λ object. object ≡ blank meta.now class) }
+{
+    let features = meta.features_seen(class);
+    let mut slots = Vec::with_capacity(alloc, features.len())?;
+    for _feature in features {
+        slots.push(Row::new(Items::new(alloc)))?;
+    }
+    Ok(Held::new(class, slots))
 }
 
 // An object that nothing was written to.

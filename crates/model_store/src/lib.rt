@@ -20,7 +20,9 @@ mod path;
 pub mod refusal;
 mod roots;
 pub mod row;
+pub mod sketch;
 mod store;
 #[cfg(test)]
 mod tests;
+pub mod texts;
 mod types;

@@ -44,7 +44,7 @@ impl std::marker::Model for Model {
 }
 
 // The model that a store is.
-fn made(alloc: Global, store: Store) -> Result<Model, AllocError>
+pub(crate) fn made(alloc: Global, store: Store) -> Result<Model, AllocError>
     requires { IsModel store }
     ensures { IfOk result (λ model. model ≡ store) }
 {

@@ -1,20 +1,21 @@
 // The objects, slots and roots of a model. A store need not be a model: a write takes it through states in which the two ends of a
 // pair disagree. `model.rt` has the type that is always one.
-ghost use Rattle.std.specs.Prelude.{◌≡◌, ◌≤◌, ◌<◌, ◌⊎◌, ◌++◌, ◌-◌, ◌∷◌, IfOk, OnOk, OnErr, IfSome, MatchResult, [], length, take, slice_index_or, Some, None, Err, false, option_map, is_ok, if◌then◌else◌, map};
+ghost use Rattle.std.specs.Prelude.{◌≡◌, ◌≤◌, ◌<◌, ◌⊎◌, ◌++◌, ◌-◌, ◌∷◌, IfOk, OnOk, OnErr, IfSome, MatchResult, [], length, suc, ◌^◌, take, slice_index_or, Some, None, Err, false, option_map, is_ok, if◌then◌else◌, map};
 ghost use Rattle.std.specs.Option.{option_copied, option_map_or};
 ghost use Rattle.model_store.specs.declared.parts.Object.{Object};
 ghost use Rattle.model_store.specs.declared.parts.Cellv.TheVariants.{Obj};
 ghost use Rattle.model_store.specs.Drafts.{settled};
+ghost use Rattle.model_store.specs.Sketches.{with_last_root, with_object, with_value};
 ghost use Rattle.model_store.specs.Valid.{Fits, IsConcrete, IsModel};
 ghost use Rattle.model_store.specs.Writes.{appended, write, Creates, Writes};
 ghost use Rattle.model_store.specs.Contents.{holds, is_unique, object_count, object_at, class_of, slot, with_slot, set_slot, refusal, refers, place_in, HasPlace, IsShaped};
 ghost use Rattle.model_store.specs.HolderTables.{AreHolders};
 
-use crate::attributes::{append_or_not, fresh, replaced};
+use crate::attributes::{append_or_not, blank, fresh, replaced};
 use crate::containing::{clear, note_place};
 use crate::copies::copy_objects;
 use crate::held::Held;
-use crate::lookups::{contains, is_many, is_unique, opposite, place_in};
+use crate::lookups::{contains, is_many, is_unique, opposite, place_in, refers};
 use crate::parts::{Cellv, Object, Slot};
 use crate::refusal::StoreRefusal;
 use crate::roots::{RootStep, Roots};
@@ -250,17 +251,52 @@ impl Store {
         exchange_at(&mut self.objects[o.0 as usize], at, cells)
     }
 
-    // An object more in a slot.
+    // A value more in a slot.
     #[tactic(auto, using(crate::proofs::Exchanges::set_twice, crate::proofs::Exchanges::set_back))]
+    pub(crate) fn append_value(
+        &mut self,
+        o: ObjId,
+        f: FeatId,
+        value: Cellv,
+    ) -> Result<(), AllocError>
+        ensures ok { OnOk result (self.new ≡ with_value o f value self.old) }
+        ensures err { OnErr result (self.new ≡ self.old) }
+    {
+        let keep = refers(&self.meta, f)
+            && !contains(&self.meta, f)
+            && opposite(&self.meta, f).is_none();
+        let mut cells = self.exchange(o, f, Row::new(Items::new(self.alloc)));
+        let pushed = cells.push(self.alloc, value, keep);
+        let _ = self.exchange(o, f, cells);
+        pushed
+    }
+
+    // An object more in a slot.
     pub(crate) fn append(&mut self, o: ObjId, f: FeatId, q: ObjId) -> Result<(), AllocError>
         ensures ok { OnOk result (self.new ≡ set_slot self.old o f (slot self.old o f ++ Obj q ∷ [])) }
         ensures err { OnErr result (self.new ≡ self.old) }
     {
-        let keep = !contains(&self.meta, f) && opposite(&self.meta, f).is_none();
-        let mut cells = self.exchange(o, f, Row::new(Items::new(self.alloc)));
-        let pushed = cells.push(self.alloc, Cellv::Obj(q), keep);
-        let _ = self.exchange(o, f, cells);
-        pushed
+        self.append_value(o, f, Cellv::Obj(q))
+    }
+
+    // An object more, with empty slots.
+    pub(crate) fn push_blank(&mut self, class: ClassId) -> Result<(), AllocError>
+        requires class { class.0 < length self.old.meta.classes }
+        requires few { suc (length self.old.objects) < 2 ^ 32 }
+        ensures ok { OnOk result (self.new ≡ with_object class self.old) }
+    {
+        let object = blank(self.alloc, &self.meta, class)?;
+        self.objects.push(Some(object))?;
+        self.count += 1;
+        Ok(())
+    }
+
+    // A root more, behind the others.
+    pub(crate) fn push_root(&mut self, o: ObjId) -> Result<(), AllocError>
+        ensures ok { OnOk result (self.new ≡ with_last_root o self.old) }
+    {
+        self.roots.push(o)?;
+        Ok(())
     }
 
     // The last value less in a slot.

@@ -1,7 +1,6 @@
 use Rattle.std.proofs.Common.{◌≡◌, ◌++◌, ℕ, List, suc, length, reverse, ap, ◌∙◌}
 use Rattle.std.specs.List.{flat_map}
 use Rattle.model_store.specs.declared.path.Step.{Step}
-use Rattle.model_store.specs.Contents.{Contents}
 use Rattle.model_store.specs.Paths.{path, root_text, step_text, top_within, steps_within}
 use Rattle.model_store.proofs.model.Model.fragment.Goals as goal
 
