@@ -1,5 +1,6 @@
 // A metamodel: valid lists, kept together with the tables that answer what a class inherits.
 ghost use Rattle.std.specs.Prelude.{◌≡◌, ◌≢◌, ◌<◌, ◌↔◌, length, IsTrue, IfOk, IfSome, IfNone, Contains};
+ghost use Rattle.std.specs.List.Sorted.{IsStrictlyIncreasing};
 ghost use Rattle.atl_base.specs.declared.numbers.ClassId.{ClassId};
 ghost use Rattle.atl_base.specs.declared.numbers.FeatId.{FeatId};
 ghost use Rattle.ecore_meta.specs.declared.parts.Parts.{Parts};
@@ -116,7 +117,8 @@ impl Metamodel {
     /// The places of the classes that a class conforms to, rising.
     pub fn conformed(&self, class: ClassId) -> &[usize]
         requires { class.0 < length self.now.classes }
-        ensures { (d : ClassId) → Contains result.now d.0 ↔ Conforms self.now.classes class d }
+        ensures each { (d : ClassId) → Contains result.now d.0 ↔ Conforms self.now.classes class d }
+        ensures rising { IsStrictlyIncreasing result.now }
     {
         self.conformed[class.0 as usize].as_slice()
     }

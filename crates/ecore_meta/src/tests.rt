@@ -247,6 +247,14 @@ fn named(
     Ok(None)
 }
 
+// The places of the classes that a class conforms to.
+fn conformed(meta: &Metamodel, class: u32) -> &[usize] {
+    if class as usize >= meta.classes().len() {
+        return &[];
+    }
+    meta.conformed(ClassId(class))
+}
+
 fn conforms(meta: &Metamodel, sub: u32, sup: u32) -> bool {
     let classes = meta.classes().len();
     (sub as usize) < classes
@@ -287,6 +295,8 @@ fn features_of_persons(rt: HostRuntime) -> Result<(), Fail> {
     assert!(rt; conforms(&meta, 0, 2));
     assert!(rt; !conforms(&meta, 2, 0));
     assert!(rt; !conforms(&meta, 0, 1));
+    assert_eq!(rt; conformed(&meta, 0), [0usize, 2].as_slice());
+    assert_eq!(rt; conformed(&meta, 2), [2usize].as_slice());
     Ok(())
 }
 

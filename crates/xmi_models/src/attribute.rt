@@ -7,6 +7,7 @@ use crate::part::Part;
 use atl_base::numbers::{ClassId, FeatId};
 use doc_text::XMI;
 use doc_text::tree::Attribute;
+use ecore_meta::metamodel::Metamodel;
 use xmi_names::lookups::{feature_named, is_skipped};
 use xmi_names::vocabulary::Vocabulary;
 use xmi_read::markup::{XSI, is_called};
@@ -40,7 +41,7 @@ fn is_href(attribute: &Attribute) -> bool
 }
 
 /// The class whose features an element's attributes are.
-pub(crate) fn own_class(part: Part) -> Option<ClassId>
+pub fn own_class(part: Part) -> Option<ClassId>
     ensures { result ≡ own_class_of (part_in part) }
 {
     match part {
@@ -62,11 +63,7 @@ pub(crate) fn may_have_type(part: Part) -> bool
 }
 
 /// The feature that an attribute gives.
-pub(crate) fn attribute_feature(
-    meta: &Vocabulary<'_>,
-    part: Part,
-    attribute: &Attribute,
-) -> Option<FeatId>
+pub fn attribute_feature(meta: &Metamodel, part: Part, attribute: &Attribute) -> Option<FeatId>
     ensures { result ≡ attribute_feature_of meta.now (part_in part) attribute.now }
 {
     if !attribute.space.bytes().is_empty() {
@@ -99,7 +96,7 @@ pub(crate) fn is_no_feature(meta: &Vocabulary<'_>, part: Part, attribute: &Attri
         || is_nil(attribute)
         || is_href(attribute)
         || (is_type(attribute) && may_have_type(part))
-        || attribute_feature(meta, part, attribute).is_some()
+        || attribute_feature(meta.metamodel(), part, attribute).is_some()
         || is_skipped_attribute(meta, part, attribute))
 }
 
@@ -108,6 +105,6 @@ pub(crate) fn is_foreign(meta: &Vocabulary<'_>, part: Part, attribute: &Attribut
     ensures { result ≡ is_foreign_of meta.now (part_in part) attribute.now }
 {
     is_href(attribute)
-        && !(attribute_feature(meta, part, attribute).is_some()
+        && !(attribute_feature(meta.metamodel(), part, attribute).is_some()
             || is_skipped_attribute(meta, part, attribute))
 }

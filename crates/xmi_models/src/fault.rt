@@ -27,14 +27,14 @@ pub enum Kind {
 
 /// A kind of fault and its value.
 #[derive(Drop)]
-pub(crate) struct Fault {
+pub struct Fault {
     pub kind: Kind,
     pub value: Text,
 }
 
 /// The first fault of a file and the place of the element.
 #[derive(Drop)]
-pub(crate) struct FoundFault {
+pub struct FoundFault {
     pub fault: Fault,
     pub place: Place,
 }

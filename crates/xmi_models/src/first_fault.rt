@@ -144,7 +144,7 @@ fn past(number: usize, part: Part) -> usize
 }
 
 /// The first thing that is wrong in the elements of a file.
-pub(crate) fn element_fault(
+pub fn element_fault(
     alloc: Global,
     meta: &Vocabulary<'_>,
     file: &[Entry<'_>],

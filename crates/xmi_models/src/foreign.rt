@@ -44,7 +44,7 @@ fn foreign_text(
     if is_foreign(meta, part, attribute) {
         return Ok(Some(attribute.value.copy(alloc)?));
     }
-    match attribute_feature(meta, part, attribute) {
+    match attribute_feature(meta.metamodel(), part, attribute) {
         Some(feature) => {
             if refers(meta, feature) && !contains(meta, feature) {
                 return foreign_word(alloc, &attribute.value);
@@ -79,8 +79,8 @@ pub(crate) fn is_misplaced(meta: &Vocabulary<'_>, part: Part) -> bool
     let Part::Content(_, feature, Some(class)) = part else {
         return false;
     };
-    match class_said(meta, feature) {
-        Some(said) => !is_sub(meta, class, said),
+    match class_said(meta.metamodel(), feature) {
+        Some(said) => !is_sub(meta.metamodel(), class, said),
         None => false,
     }
 }

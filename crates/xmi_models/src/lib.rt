@@ -1,18 +1,18 @@
 //! Models from documents.
 #![tactic(auto)]
 
-mod attribute;
+pub mod attribute;
 mod class_fault;
-mod fault;
+pub mod fault;
 mod feature_fault;
-mod first_fault;
+pub mod first_fault;
 mod foreign;
-mod outline;
-mod part;
+pub mod outline;
+pub mod part;
 mod scope;
 mod seen;
 mod stray;
 #[cfg(test)]
 mod tests;
-mod value;
+pub mod value;
 mod value_fault;

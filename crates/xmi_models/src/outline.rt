@@ -25,7 +25,7 @@ const DEEPEST: usize = 200;
 
 /// The elements of a file in document order.
 #[derive(Drop)]
-pub(crate) struct File<'a> {
+pub struct File<'a> {
     pub entries: Vec<Entry<'a>>,
     /// How many of them are objects.
     pub objects: usize,
@@ -115,7 +115,7 @@ fn feature_part(
         else if refers_in meta.now feature then Cross feature class
         else Value (object_no number) feature) }
 {
-    let said = class_said(meta, feature);
+    let said = class_said(meta.metamodel(), feature);
     if contains(meta, feature) {
         return Part::Content(number, feature, child_class(meta, scope, element, said));
     }
@@ -135,7 +135,7 @@ fn child_part(
 ) -> Part
     ensures { part_in result ≡ child_part_in meta.now class (object_no number) (scope_of scope.now) (tag_of element.now) }
 {
-    match feature_named(meta, class, &element.name) {
+    match feature_named(meta.metamodel(), class, &element.name) {
         Some(feature) => feature_part(meta, feature, number, scope, element),
         None => Part::Unknown(asked_class(meta, scope, element)),
     }
@@ -267,12 +267,12 @@ fn push_child<'a>(
 }
 
 /// The tables of a document's long lists of namespace declarations, by which its outline looks up prefixes.
-pub(crate) fn declarations(alloc: Global, doc: &Doc) -> Result<Levels<'_>, AllocError> {
+pub fn declarations(alloc: Global, doc: &Doc) -> Result<Levels<'_>, AllocError> {
     levels_in(alloc, &doc.root, DEEPEST)
 }
 
 /// The outline of a document.
-pub(crate) fn outline<'a>(
+pub fn outline<'a>(
     alloc: Global,
     doc: &'a Doc,
     levels: &'a Levels<'a>,

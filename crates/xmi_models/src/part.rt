@@ -8,7 +8,7 @@ use doc_text::tree::Element;
 
 /// What an element is. Objects are numbered from 0 in document order.
 #[derive(Clone, Copy)]
-pub(crate) enum Part {
+pub enum Part {
     /// `xmi:XMI`.
     Around,
     /// An object, where its class is one.
@@ -36,12 +36,12 @@ pub(crate) enum Where {
 
 /// An element and what it is.
 #[derive(Clone, Copy)]
-pub(crate) struct Entry<'a> {
+pub struct Entry<'a> {
     pub part: Part,
     pub element: &'a Element,
 }
 
-pub(crate) fn is_object(part: Part) -> bool
+pub fn is_object(part: Part) -> bool
     ensures { result ≡ is_object_of (part_in part) }
 {
     matches!(part, Part::Root(_) | Part::Content(_, _, _))

@@ -55,7 +55,7 @@ fn note_attribute(
     ensures { OnOk result ((o f : ℕ) → is_given seen.new o f ≡ (is_given seen.old o f
         || (object == o && option_map_or (λ g. g.0 == f) (attribute_feature_of meta.now (part_in part) attribute.now) false))) }
 {
-    match attribute_feature(meta, part, attribute) {
+    match attribute_feature(meta.metamodel(), part, attribute) {
         Some(feature) => note(seen, object, feature),
         None => Ok(()),
     }

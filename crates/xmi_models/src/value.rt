@@ -19,7 +19,7 @@ use xmi_read::numbers::is_int_text;
 use xmi_read::words::words;
 
 /// The text that an element has.
-pub(crate) fn element_text(alloc: Global, element: &Element) -> Result<Text, AllocError>
+pub fn element_text(alloc: Global, element: &Element) -> Result<Text, AllocError>
     ensures { IfOk result (λ t. t ≡ text_in (tag_of element.now)) }
 {
     let mut text = Text::new(alloc);
@@ -55,7 +55,7 @@ pub(crate) fn is_value_of(meta: &Vocabulary<'_>, feature: FeatId, text: &[u8]) -
 }
 
 /// A text of these bytes, which are one.
-pub(crate) fn text_of(alloc: Global, bytes: &[u8]) -> Result<Text, AllocError>
+pub fn text_of(alloc: Global, bytes: &[u8]) -> Result<Text, AllocError>
     requires { IsXmlText bytes.now }
     ensures { IfOk result (λ t. t ≡ bytes.now) }
 {
@@ -144,7 +144,7 @@ pub(crate) fn attribute_value(
     if is_nil(attribute) {
         return Ok(Some(Text::new(alloc)));
     }
-    match attribute_feature(meta, part, attribute) {
+    match attribute_feature(meta.metamodel(), part, attribute) {
         Some(feature) => bad_text(alloc, meta, feature, &attribute.value),
         None => Ok(None),
     }

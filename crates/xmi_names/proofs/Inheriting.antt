@@ -49,7 +49,7 @@ module _ (classes : List Class) where
   simple {c} itself = one numbers c.0
   simple {c} {d} (by_super {s = s} m rest) = further numbers c.0 s.0 d.0 (up c s m) (simple rest)
 
-  related : (n : ℕ) (c d : ClassId) → inherits n numbers c.0 d.0 ≡ true → Conforms classes c d
+  pub related : (n : ℕ) (c d : ClassId) → inherits n numbers c.0 d.0 ≡ true → Conforms classes c d
   related zero c d h = subst (λ x. Conforms classes c x) (same_class c d (eqb-true c.0 d.0 h)) itself
   related (suc n) c d h = ⊎_elim
       (λ (e : (c.0 == d.0) ≡ true). subst (λ x. Conforms classes c x) (same_class c d (eqb-true c.0 d.0 e)) itself)

@@ -7,6 +7,7 @@ ghost use Rattle.xmi_names.specs.Names.{class_at as class_at_place, class_named 
 use crate::vocabulary::Vocabulary;
 use atl_base::numbers::{ClassId, FeatId};
 use atl_base::text::Text;
+use ecore_meta::metamodel::Metamodel;
 use ecore_meta::parts::FeatKind;
 use model_store::lookups;
 
@@ -31,10 +32,9 @@ pub fn class_named(meta: &Vocabulary<'_>, space: &[u8], name: &[u8]) -> Option<C
 }
 
 /// Whether a class is another one or inherits from it.
-pub fn is_sub(meta: &Vocabulary<'_>, sub: ClassId, sup: ClassId) -> bool
+pub fn is_sub(meta: &Metamodel, sub: ClassId, sup: ClassId) -> bool
     ensures { result ≡ is_sub_in meta.now sub sup }
 {
-    let meta = meta.metamodel();
     let parts = meta.parts();
     let count = parts.classes.len();
     if sub.0 as usize >= count || sup.0 as usize >= count {
@@ -44,10 +44,9 @@ pub fn is_sub(meta: &Vocabulary<'_>, sub: ClassId, sup: ClassId) -> bool
 }
 
 /// The feature of this name that is seen in a class.
-pub fn feature_named(meta: &Vocabulary<'_>, class: ClassId, name: &Text) -> Option<FeatId>
+pub fn feature_named(meta: &Metamodel, class: ClassId, name: &Text) -> Option<FeatId>
     ensures { result ≡ feature_named_in meta.now class name.now }
 {
-    let meta = meta.metamodel();
     let parts = meta.parts();
     if class.0 as usize >= parts.classes.len() {
         return None;
@@ -59,7 +58,7 @@ pub fn feature_named(meta: &Vocabulary<'_>, class: ClassId, name: &Text) -> Opti
 pub fn is_skipped(meta: &Vocabulary<'_>, class: ClassId, name: &Text) -> bool
     ensures { result ≡ is_skipped_in meta.now class name.now }
 {
-    if feature_named(meta, class, name).is_some() {
+    if feature_named(meta.metamodel(), class, name).is_some() {
         return false;
     }
     meta.has_skipped(class, name.bytes())
@@ -75,10 +74,10 @@ fn class_of_kind(kind: FeatKind) -> Option<ClassId>
 }
 
 /// The class of a reference.
-pub fn class_said(meta: &Vocabulary<'_>, feature: FeatId) -> Option<ClassId>
+pub fn class_said(meta: &Metamodel, feature: FeatId) -> Option<ClassId>
     ensures { result ≡ class_said_in meta.now feature }
 {
-    match meta.metamodel().all_features().get(feature.0 as usize) {
+    match meta.all_features().get(feature.0 as usize) {
         Some(feature) => class_of_kind(feature.kind),
         None => None,
     }

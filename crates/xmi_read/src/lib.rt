@@ -8,7 +8,7 @@ mod data_type;
 mod earlier_names;
 mod element_fault;
 mod enums;
-mod fault;
+pub mod fault;
 mod features;
 mod file;
 mod first_fault;

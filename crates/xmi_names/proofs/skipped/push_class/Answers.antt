@@ -22,7 +22,7 @@ returns-in-Some c =
     ∙ list_any-append (is_key n q) old (flat_map (λ d. keyed c.args.place (names_in c.args.rows.now d)) c.conformed.result.now)
     ∙ ap (λ b. list_any (is_key n q) old || b)
     (subst (λ (k : ClassId). list_any (is_key n q) (flat_map (λ d. keyed k.0 (names_in c.args.rows.now d)) c.conformed.result.now) ≡ (k.0 == n && has_skipped m k q)) here
-    (class_sees m c.requires.valid c.args.rows.now c.requires.rows class within c.conformed.result.now c.conformed.ensures n q)
+    (class_sees m c.requires.valid c.args.rows.now c.requires.rows class within c.conformed.result.now c.conformed.ensures.each n q)
     ∙ at_same (λ k. has_skipped m (class_no k) q) c.args.place n))
     c.push_seen.ensures
 
