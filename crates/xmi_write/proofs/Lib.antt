@@ -8,5 +8,4 @@ pub mod Rings
 pub mod Climbing
 pub mod Begun
 pub mod Tables
-pub mod Numbers
 pub mod Pieces

@@ -1,9 +1,7 @@
 // The texts of values, and which slots are written as attributes.
-ghost use Rattle.std.specs.Prelude.{◌≡◌, ◌++◌, [], map, IfOk, OnOk, slice_get};
-ghost use Rattle.std.specs.Fmt.{signed_decimal};
-ghost use Rattle.std.specs.Option.{option_map_or};
+ghost use Rattle.std.specs.Prelude.{◌≡◌, ◌++◌, map, IfOk, OnOk};
 ghost use Rattle.model_store.specs.Paths.{path};
-ghost use Rattle.model_store.specs.Texts.{literal_text, truth_text, value_text};
+ghost use Rattle.model_store.specs.Texts.{value_text};
 ghost use Rattle.xmi_write.specs.Settings.{IsSetting};
 ghost use Rattle.xmi_write.specs.Values.{are_same, behind, is_attribute, is_untouched, joined, may_be_attribute};
 
@@ -11,57 +9,12 @@ use crate::setting::Setting;
 use atl_base::numbers::{FeatId, ObjId};
 use atl_base::text::Text;
 use ecore_meta::metamodel::Metamodel;
-use ecore_meta::parts::FeatKind;
-use itoa::Buffer;
 use model_store::attributes::{initial, same_value};
 use model_store::lookups::{contains, is_contained_by, is_many, refers};
 use model_store::model::Model;
 use model_store::parts::Cellv;
+use model_store::texts::push_plain_text;
 use std::alloc::AllocError;
-
-// Adds a number in decimal.
-fn push_number(out: &mut Text, number: i64) -> Result<(), AllocError>
-    ensures { OnOk result (out.new ≡ out.old ++ signed_decimal number) }
-{
-    let mut buffer = Buffer::new();
-    out.push_ascii(buffer.format(number))
-}
-
-fn push_truth(out: &mut Text, truth: bool) -> Result<(), AllocError>
-    ensures { OnOk result (out.new ≡ out.old ++ truth_text truth) }
-{
-    if truth {
-        out.push_ascii("true")
-    } else {
-        out.push_ascii("false")
-    }
-}
-
-// Adds the text of a literal.
-fn push_literal(out: &mut Text, meta: &Metamodel, kind: FeatKind, l: u32) -> Result<(), AllocError>
-    ensures { OnOk result (out.new ≡ out.old ++ literal_text meta.now kind l) }
-{
-    let FeatKind::Enum(e) = kind else {
-        return Ok(());
-    };
-    let Some(found) = meta.enums().get(e as usize) else {
-        return Ok(());
-    };
-    match found.literals.get(l as usize) {
-        Some(literal) => out.push_text(&literal.text),
-        None => Ok(()),
-    }
-}
-
-// Adds the text of a literal of a feature.
-fn push_literal_of(out: &mut Text, meta: &Metamodel, f: FeatId, l: u32) -> Result<(), AllocError>
-    ensures { OnOk result (out.new ≡ out.old ++ option_map_or (λ feature. literal_text meta.now feature.kind l) (slice_get meta.now.features f.0) []) }
-{
-    match meta.all_features().get(f.0 as usize) {
-        Some(feature) => push_literal(out, meta, feature.kind, l),
-        None => Ok(()),
-    }
-}
 
 // Adds the path of an object.
 fn push_path(out: &mut Text, model: &Model, o: ObjId) -> Result<(), AllocError>
@@ -80,11 +33,8 @@ pub(crate) fn push_value(
     ensures { OnOk result (out.new ≡ out.old ++ value_text model.now f value.now) }
 {
     match value {
-        Cellv::Words(text) => out.push_text(text),
-        Cellv::Int(number) => push_number(out, *number),
-        Cellv::Truth(truth) => push_truth(out, *truth),
-        Cellv::Literal(l) => push_literal_of(out, model.meta(), f, *l),
         Cellv::Obj(o) => push_path(out, model, *o),
+        _ => push_plain_text(out, model.meta(), f, value),
     }
 }
 
