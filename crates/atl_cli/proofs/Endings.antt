@@ -67,6 +67,8 @@ written_ends words path text before after low mid high (status.WriteFault at) so
 )
 written_ends words path text before after low mid high (status.Usage why) some le j w = absurd w
 written_ends words path text before after low mid high (status.Syntax what at) some le j w = absurd w
+written_ends words path text before after low mid high (status.Meta at kind value place) some le j w = absurd w
+written_ends words path text before after low mid high (status.Model at kind value place) some le j w = absurd w
 written_ends words path text before after low mid high (status.TooLarge what) some le j w = absurd w
 written_ends words path text before after low mid high (status.NotYet what) some le j w = absurd w
 
@@ -81,6 +83,8 @@ Ended-earlier words before middle after low mid high s same le e = more s (subst
     more (status.WriteFault path) e = (Rose-earlier low mid high le e.0, e.1, e.2, e.3)
     more (status.Usage why) e = e
     more (status.Syntax what at) e = e
+    more (status.Meta path kind value at) e = e
+    more (status.Model path kind value at) e = e
     more (status.TooLarge what) e = e
     more (status.NotYet what) e = e
 

@@ -8,9 +8,11 @@ use Rattle.atl_cli.specs.declared.status.Ending.TheVariants as ending
 use Rattle.atl_cli.specs.declared.status.Status.TheVariants as status
 use Rattle.atl_cli.specs.Answers.{Judges, JudgesBy, Ended, EndedBy}
 use Rattle.atl_cli.specs.Commands.{command_of}
-use Rattle.atl_cli.specs.Format.{NoMemory}
+use Rattle.atl_cli.specs.Format as f
+use Rattle.atl_cli.specs.Model as m
 use Rattle.atl_cli.specs.Outcome.{Outcome}
 use Rattle.atl_cli.proofs.FormatAnswer as format
+use Rattle.atl_cli.proofs.ModelAnswer as model
 use Rattle.atl_cli.proofs.OneAnswer as transform
 
 pub ended_by : (words : List (List ℕ)) (word : List ℕ) (rest : List (List ℕ)) (k : Option Command) (before after : Option Held) (low high : ℕ) (e : Ending) →
@@ -26,12 +28,14 @@ no_memory (word ∷ rest) before after low high same = go (command_of word)
     go None = (same, inr refl)
     go (Some C.Unbuilt) = (same, inr refl)
     go (Some C.Transform) = same
-    go (Some C.Format) = (same, NoMemory)
+    go (Some C.Model) = m.NoMemory same
+    go (Some C.Format) = (same, f.NoMemory)
 
 by_command : (k : Option Command) (word : List ℕ) (rest : List (List ℕ)) (held : Held) (a b : Outcome) → JudgesBy k word rest held a → JudgesBy k word rest held b → a ≡ b
 by_command None word rest held a b x y = x ∙ sym y
 by_command (Some C.Unbuilt) word rest held a b x y = x ∙ sym y
 by_command (Some C.Transform) word rest held a b x y = transform.one_answer (word ∷ rest) held a b x y
+by_command (Some C.Model) word rest held a b x y = model.one_answer rest held a b x y
 by_command (Some C.Format) word rest held a b x y = format.one_answer rest held a b x y
 
 pub one_answer : (words : List (List ℕ)) (held : Held) (a b : Outcome) → Judges words held a → Judges words held b → a ≡ b

@@ -14,6 +14,7 @@ use Rattle.atl_cli.specs.declared.status.Status.{Status}
 use Rattle.atl_cli.specs.declared.status.Status.TheVariants as status
 use Rattle.atl_cli.specs.Commands.{command_of}
 use Rattle.atl_cli.specs.Format as format
+use Rattle.atl_cli.specs.Model as model
 use Rattle.atl_cli.specs.Outcome.{Outcome, Ends, status_of, said}
 use Rattle.atl_cli.specs.Transform as transform
 
@@ -23,6 +24,7 @@ abbrev pub JudgesBy : Option Command → List ℕ → List (List ℕ) → Held �
 JudgesBy None word words held o = o ≡ Ends (status.Usage (UnknownCommand word))
 JudgesBy (Some C.Unbuilt) word words held o = o ≡ Ends (status.NotYet Words)
 JudgesBy (Some C.Transform) word words held o = transform.Judges (word ∷ words) held o
+JudgesBy (Some C.Model) word words held o = model.Judges words held o
 JudgesBy (Some C.Format) word words held o = format.Judges words held o
 
 -- What the words come to, where the files hold these contents.
@@ -41,10 +43,16 @@ abbrev pub Transformed : List (List ℕ) → Option Held → Option Held → ℕ
 Transformed words before after low high (ending.Ends end) = transform.Ended words before after low high end
 Transformed words before after low high (ending.Prints text) = ⊥
 
+-- so does `model`
+abbrev pub Remade : List (List ℕ) → Option Held → Option Held → ℕ → ℕ → Ending → Type 0
+Remade words before after low high (ending.Ends end) = model.Ended words before after low high end
+Remade words before after low high (ending.Prints text) = ⊥
+
 abbrev pub EndedBy : Option Command → List ℕ → List (List ℕ) → Option Held → Option Held → ℕ → ℕ → Ending → Type 0
 EndedBy None word words before after low high e = EndsBy (status.Usage (UnknownCommand word)) before after e
 EndedBy (Some C.Unbuilt) word words before after low high e = EndsBy (status.NotYet Words) before after e
 EndedBy (Some C.Transform) word words before after low high e = Transformed (word ∷ words) before after low high e
+EndedBy (Some C.Model) word words before after low high e = Remade words before after low high e
 EndedBy (Some C.Format) word words before after low high e = (after ≡ before) × format.Ended words before low high e
 
 -- How a run over files ends, before anything is put out: the files' content and count of faults before, and after it.

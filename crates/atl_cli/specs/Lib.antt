@@ -2,11 +2,15 @@ pub mod Answers
 pub mod Commands
 pub mod Flat
 pub mod Format
+pub mod Model
 pub mod OneRule
 pub mod OperandCommand
 pub mod Operands
 pub mod Outcome
 pub mod Plain
+pub mod Reads
+pub mod Refusals
+pub mod Refused
 pub mod Source
 pub mod Status
 pub mod Transform

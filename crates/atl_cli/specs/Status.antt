@@ -7,6 +7,7 @@ use Rattle.atl_cli.specs.declared.command.Misuse.{Misuse}
 use Rattle.atl_cli.specs.declared.command.Misuse.TheVariants as misuse
 use Rattle.atl_cli.specs.declared.syntax.SyntaxKind.{SyntaxKind}
 use Rattle.atl_cli.specs.declared.syntax.SyntaxKind.TheVariants as kind
+use Rattle.atl_cli.specs.Refused.{meta_word, model_word}
 use Rattle.atl_cli.specs.declared.status.Status.{Status}
 use Rattle.atl_cli.specs.declared.status.Status.TheVariants as status
 use Rattle.atl_cli.specs.declared.status.Size.{Size}
@@ -21,6 +22,8 @@ number_of (status.Usage why) = 2
 number_of (status.ReadFault path) = 3
 number_of (status.WriteFault path) = 4
 number_of (status.Syntax what at) = 5
+number_of (status.Meta path kind value at) = 7
+number_of (status.Model path kind value at) = 8
 number_of (status.TooLarge what) = 14
 number_of (status.NotYet what) = 15
 
@@ -52,6 +55,15 @@ kind_word kind.TooDeep = codes "TooDeep"
 abbrev pub place_words : Place → List ℕ
 place_words at = decimal at.line ++ (codes ":" ++ decimal at.column)
 
+-- a value behind a blank, if there is one
+abbrev pub valued : List ℕ → List ℕ
+valued [] = []
+valued (c ∷ value) = codes " " ++ (c ∷ value)
+
+-- what is told of a file: its path, a kind, a value and a place
+abbrev pub told : List ℕ → List ℕ → List ℕ → Place → List ℕ
+told path kind value at = path ++ (codes " " ++ (kind ++ (valued value ++ (codes " at " ++ (place_words at ++ codes "\n")))))
+
 abbrev pub line_of : Status → List ℕ
 line_of status.Ok = []
 line_of status.Memory = []
@@ -60,5 +72,7 @@ line_of (status.ReadFault path) = codes "3 ReadFault: " ++ (path ++ codes "\n")
 line_of (status.WriteFault []) = []
 line_of (status.WriteFault (c ∷ path)) = codes "4 WriteFault: " ++ ((c ∷ path) ++ codes "\n")
 line_of (status.Syntax what at) = codes "5 Syntax: " ++ (kind_word what ++ (codes " at " ++ (place_words at ++ codes "\n")))
+line_of (status.Meta path kind value at) = codes "7 Meta: " ++ told path (meta_word kind) value at
+line_of (status.Model path kind value at) = codes "8 Model: " ++ told path (model_word kind) value at
 line_of (status.TooLarge what) = codes "14 TooLarge: " ++ (size_words what ++ codes "\n")
 line_of (status.NotYet what) = codes "15 NotYet: " ++ (form_word what ++ codes "\n")

@@ -86,6 +86,8 @@ IsWritten path text before after low high (status.ReadFault at) = ⊥
 IsWritten path text before after low high (status.WriteFault at) = Rose low high × (at ≡ path) × SameElsewhere path before after
 IsWritten path text before after low high (status.Usage why) = ⊥
 IsWritten path text before after low high (status.Syntax what at) = ⊥
+IsWritten path text before after low high (status.Meta at kind value place) = ⊥
+IsWritten path text before after low high (status.Model at kind value place) = ⊥
 IsWritten path text before after low high (status.TooLarge what) = ⊥
 IsWritten path text before after low high (status.NotYet what) = ⊥
 
@@ -97,5 +99,7 @@ Ended words before after low high (status.ReadFault path) = Rose low high × (af
 Ended words before after low high (status.WriteFault path) = Rose low high × (path ≢ []) × SameElsewhere path before after × IfSome before (λ held. (text : List ℕ) × Judges words held (Writes path text))
 Ended words before after low high (status.Usage why) = ⊥
 Ended words before after low high (status.Syntax what at) = ⊥
+Ended words before after low high (status.Meta path kind value at) = ⊥
+Ended words before after low high (status.Model path kind value at) = ⊥
 Ended words before after low high (status.TooLarge what) = (after ≡ before) × IfSome before (λ held. Judges words held (Ends (TooLarge what)))
 Ended words before after low high (status.NotYet what) = (after ≡ before) × IfSome before (λ held. Judges words held (Ends (NotYet what)))

@@ -7,6 +7,7 @@ ghost use Rattle.atl_cli.specs.declared.status.Ending.{Ending as SomeEnding};
 
 use crate::command::{Command, Misuse, command_of};
 use crate::format::format_file;
+use crate::model::rewrite_model;
 use crate::status::{Ending, Form, Status};
 use crate::transform::transform;
 use atl_base::steps::Steps;
@@ -56,6 +57,7 @@ fn run<F: Files>(alloc: Global, words: &[Text], files: &mut F) -> Result<Ending,
     };
     match command_of(word) {
         Some(Command::Transform) => Ok(Ending::Ends(transform(alloc, words, files)?)),
+        Some(Command::Model) => Ok(Ending::Ends(rewrite_model(alloc, rest, files))),
         Some(Command::Format) => format_file(alloc, rest, files),
         Some(Command::Unbuilt) => Ok(Ending::Ends(Status::NotYet(Form::Words))),
         None => Ok(Ending::Ends(Status::Usage(Misuse::UnknownCommand(word.copy(alloc)?)))),

@@ -10,6 +10,7 @@ use atl_base::text::Text;
 #[derive(Clone, Copy, Debug, PartialEq, Eq)]
 pub enum Command {
     Transform,
+    Model,
     Format,
     /// A command that is to come.
     Unbuilt,
@@ -29,7 +30,7 @@ pub enum Misuse {
 fn is_to_come(word: &str) -> bool
     ensures { result ≡ list_any (λ other. bytes_eq word.now other) words_to_come }
 {
-    word == "compile" || word == "run" || word == "live" || word == "model" || word == "make"
+    word == "compile" || word == "run" || word == "live" || word == "make"
 }
 
 /// The command of this word, if it is one.
@@ -39,6 +40,9 @@ pub fn command_of(word: &Text) -> Option<Command>
     let word = word.as_str();
     if word == "transform" {
         return Some(Command::Transform);
+    }
+    if word == "model" {
+        return Some(Command::Model);
     }
     if word == "format" {
         return Some(Command::Format);

@@ -3,14 +3,15 @@ ghost use Rattle.std.specs.Prelude.{◌≡◌, ◌++◌, IfOk, OnOk, IsTrue, cod
 ghost use Rattle.std.specs.Fmt.{decimal};
 ghost use Rattle.std.specs.List.{list_all};
 ghost use Rattle.atl_base.specs.XmlText.{is_ascii_text};
-ghost use Rattle.atl_cli.specs.Status.{number_of, line_of, kind_word, place_words};
+ghost use Rattle.atl_cli.specs.Status.{number_of, line_of, kind_word, place_words, told, valued};
 
 use crate::command::Misuse;
+use crate::refused::{MetaKind, ModelKind};
 use crate::syntax::SyntaxKind;
 use atl_base::place::Place;
 use atl_base::text::Text;
 use itoa::Buffer;
-use std::alloc::{AllocError, Global};
+use std::alloc::{AllocError, AllocFailed, Global};
 
 /// What can be larger than its limit.
 #[derive(Clone, Copy, Debug, PartialEq, Eq)]
@@ -55,10 +56,36 @@ pub enum Status {
     WriteFault(Text),
     /// The bytes of a module's file have no module.
     Syntax(SyntaxKind, Place),
+    /// The file at a path has no metamodel: why, with a value and a place.
+    Meta(Text, MetaKind, Text, Place),
+    /// The file at a path has no model: why, with a value and a place.
+    Model(Text, ModelKind, Text, Place),
     /// An input is larger than its limit.
     TooLarge(Size),
     /// An input has a form that is not built yet.
     NotYet(Form),
+}
+
+impl From<AllocError> for Status {
+    ghost use Rattle.std.specs.Prelude.{◌≡◌};
+    ghost use Rattle.atl_cli.specs.declared.status.Status.TheVariants.{Memory};
+
+    ghost from_gives = { λ _ e. e ≡ Memory };
+
+    fn from(_e: AllocError) -> Status {
+        Status::Memory
+    }
+}
+
+impl<T: Drop> From<AllocFailed<T>> for Status {
+    ghost use Rattle.std.specs.Prelude.{◌≡◌};
+    ghost use Rattle.atl_cli.specs.declared.status.Status.TheVariants.{Memory};
+
+    ghost from_gives = { λ _ e. e ≡ Memory };
+
+    fn from(_e: AllocFailed<T>) -> Status {
+        Status::Memory
+    }
 }
 
 impl Status {
@@ -73,6 +100,8 @@ impl Status {
             Status::ReadFault(_) => 3,
             Status::WriteFault(_) => 4,
             Status::Syntax(_, _) => 5,
+            Status::Meta(_, _, _, _) => 7,
+            Status::Model(_, _, _, _) => 8,
             Status::TooLarge(_) => 14,
             Status::NotYet(_) => 15,
         }
@@ -89,6 +118,12 @@ impl Status {
             Status::ReadFault(path) => fault_line(alloc, "3 ReadFault: ", path),
             Status::WriteFault(path) => write_fault_line(alloc, path),
             Status::Syntax(kind, at) => syntax_line(alloc, *kind, *at),
+            Status::Meta(path, kind, value, at) => {
+                told_line(alloc, "7 Meta: ", path, kind.name(), value, *at)
+            }
+            Status::Model(path, kind, value, at) => {
+                told_line(alloc, "8 Model: ", path, kind.name(), value, *at)
+            }
             Status::TooLarge(size) => size_line(alloc, *size),
             Status::NotYet(form) => form_line(alloc, *form),
         }
@@ -149,6 +184,41 @@ fn syntax_line(alloc: Global, kind: SyntaxKind, at: Place) -> Result<Text, Alloc
     ensures { IfOk result (λ line. line ≡ line_of (Status.Syntax kind at)) }
 {
     let mut line = syntax_front(alloc, kind)?;
+    push_place(&mut line, at)?;
+    line.push_ascii("\n")?;
+    Ok(line)
+}
+
+// Adds a value behind a blank, if there is one.
+fn push_value(line: &mut Text, value: &Text) -> Result<(), AllocError>
+    ensures { OnOk result (line.new ≡ line.old ++ valued value.now) }
+{
+    if value.bytes().is_empty() {
+        return Ok(());
+    }
+    line.push_ascii(" ")?;
+    line.push_text(value)
+}
+
+// What is told of a file.
+fn told_line(
+    alloc: Global,
+    words: &str,
+    path: &Text,
+    kind: &str,
+    value: &Text,
+    at: Place,
+) -> Result<Text, AllocError>
+    requires words { IsTrue (list_all is_ascii_text words.now) }
+    requires kind { IsTrue (list_all is_ascii_text kind.now) }
+    ensures { IfOk result (λ line. line ≡ words.now ++ told path.now kind.now value.now at) }
+{
+    let mut line = Text::from_ascii(alloc, words)?;
+    line.push_text(path)?;
+    line.push_ascii(" ")?;
+    line.push_ascii(kind)?;
+    push_value(&mut line, value)?;
+    line.push_ascii(" at ")?;
     push_place(&mut line, at)?;
     line.push_ascii("\n")?;
     Ok(line)

@@ -132,7 +132,6 @@ fn words_are_judged(rt: HostRuntime) -> Result<(), Fail> {
         words(&["", "M.atl"], 2, "2 Usage: UnknownCommand\n"),
         words(&["Format", "M.atl"], 2, "2 Usage: UnknownCommand Format\n"),
         words(&["--", "format"], 2, "2 Usage: UnknownCommand --\n"),
-        words(&["model", "a", "b", "c"], 15, to_come),
         words(&["compile"], 15, to_come),
         words(&["run"], 15, to_come),
         words(&["live"], 15, to_come),
