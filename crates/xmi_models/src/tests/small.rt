@@ -1,6 +1,6 @@
 // Whether a document is small enough to be read: a count of its elements and attributes.
 ghost use Rattle.std.specs.Prelude.{◌≡◌, ◌≤◌, ◌+◌, IsTrue, IfSome, map};
-ghost use Rattle.xmi_read.specs.Sizes.{size, size_of_element, size_of_child, total};
+ghost use Rattle.doc_text.specs.Sizes.{size, size_of_element, size_of_child, total};
 
 use doc_text::tree::{Child, Doc, Element};
 

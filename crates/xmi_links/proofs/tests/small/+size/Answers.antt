@@ -4,7 +4,7 @@ use Rattle.std.proofs.lemmas.List.{map_push, take_more}
 use Rattle.doc_text.specs.declared.tree.Child.{Child, map-Child, fold_out-Child}
 use Rattle.doc_text.specs.declared.tree.Child.TheVariants as child
 use Rattle.doc_text.specs.declared.tree.Element.{Element, fold_out-Element}
-use Rattle.xmi_read.specs.Sizes.{total, child_layer, size_layer, size_of_element, size_of_child}
+use Rattle.doc_text.specs.Sizes.{total, child_layer, size_layer, size_of_element, size_of_child}
 use Rattle.xmi_links.proofs.tests.small.+size.Goals as goal
 
 element_is : (e : Element) → size_of_element e ≡ suc (length e.attributes + total (map size_of_child e.children))

@@ -1,5 +1,5 @@
 use Rattle.std.proofs.Common.{◌≡◌, ◌+◌, map, take}
-use Rattle.xmi_read.specs.Sizes.{size_of_child, total}
+use Rattle.doc_text.specs.Sizes.{size_of_child, total}
 use Rattle.xmi_links.proofs.tests.small.+size.Given as goal
 
 -- the children so far were taken off
