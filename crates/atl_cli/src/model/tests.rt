@@ -40,6 +40,15 @@ const META: &str =
 </ecore:EPackage>
 ";
 
+/// Boxes with a weight of a type that is not looked into.
+const BOXES: &str =
+    "<ecore:EPackage xmi:version=\"2.0\" xmlns:xmi=\"http://www.omg.org/XMI\" xmlns:xsi=\"http://www.w3.org/2001/XMLSchema-instance\" xmlns:ecore=\"http://www.eclipse.org/emf/2002/Ecore\" name=\"C\" nsURI=\"C\" nsPrefix=\"C\">
+  <eClassifiers xsi:type=\"ecore:EClass\" name=\"Box\">
+    <eStructuralFeatures xsi:type=\"ecore:EAttribute\" name=\"weight\" eType=\"ecore:EDataType http://www.eclipse.org/emf/2002/Ecore#//EDouble\"/>
+  </eClassifiers>
+</ecore:EPackage>
+";
+
 const WORDS: &str = "model A.ecore in.xmi out.xmi";
 
 const BEFORE: &str = "before";
@@ -59,6 +68,27 @@ const WRITES: Row = Row {
   <kids name=\"y\"/>
 </A:Node>
 ",
+};
+
+/// A model whose references are ids.
+const NAMES: Row = Row {
+    model: "<A:Node xmi:version=\"2.0\" xmlns:xmi=\"http://www.omg.org/XMI\" xmlns:xsi=\"http://www.w3.org/2001/XMLSchema-instance\" xmlns:A=\"A\" xmi:id=\"p\" name=\"r\" next=\"q\"><kids xmi:id=\"q\" name=\"k\" next=\"p\"/></A:Node>",
+    out: "<?xml version=\"1.0\" encoding=\"UTF-8\"?>
+<A:Node xmi:version=\"2.0\" xmlns:xmi=\"http://www.omg.org/XMI\" xmlns:xsi=\"http://www.w3.org/2001/XMLSchema-instance\" xmlns:A=\"A\" name=\"r\" next=\"//@kids.0\">
+  <kids name=\"k\" next=\"/\"/>
+</A:Node>
+",
+    ..WRITES
+};
+
+/// A value that is kept as it is written.
+const WEIGHS: Row = Row {
+    meta: BOXES,
+    model: "<C:Box xmi:version=\"2.0\" xmlns:xmi=\"http://www.omg.org/XMI\" xmlns:xsi=\"http://www.w3.org/2001/XMLSchema-instance\" xmlns:C=\"C\" weight=\"1.50\"/>",
+    out: "<?xml version=\"1.0\" encoding=\"UTF-8\"?>
+<C:Box xmi:version=\"2.0\" xmlns:xmi=\"http://www.omg.org/XMI\" xmlns:xsi=\"http://www.w3.org/2001/XMLSchema-instance\" xmlns:C=\"C\" weight=\"1.50\"/>
+",
+    ..WRITES
 };
 
 // A row of these words, which change nothing.
@@ -177,6 +207,8 @@ fn models_are_written_anew(rt: HostRuntime) -> Result<(), Fail> {
     };
     let rows = [
         WRITES,
+        NAMES,
+        WEIGHS,
         again,
         Row {
             words: "model -- A.ecore in.xmi out.xmi",
