@@ -1,9 +1,9 @@
 pub mod Chains
 mod Climbing
-mod Counted
+pub mod Counted
 mod Cuts
 pub mod Digits
-mod SignedTexts
+pub mod SignedTexts
 mod Exchanges
 mod Folded
 mod Holders
@@ -11,22 +11,22 @@ mod Keeping
 mod Kept
 mod LoneModel
 mod NamedObjects
-mod Numbers
+pub mod Numbers
 mod Noting
 mod Pairing
-mod PathDigits
+pub mod PathDigits
 pub mod PathRoots
 mod PathRows
-mod PathSteps
-mod PathsBack
-mod Readings
+pub mod PathSteps
+pub mod PathsBack
+pub mod Readings
 mod Places
 mod Rising
 mod RisingRoots
 mod RowValues
 mod Appending
 mod SameHolders
-mod Trees
+pub mod Trees
 pub mod Updates
 pub mod Slots
 pub mod Thinned
