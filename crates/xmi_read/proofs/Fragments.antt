@@ -1,7 +1,7 @@
 -- The parts of a fragment between slashes, by the places where slashes stand.
 use Rattle.std.proofs.Common.{◌≡◌, ℕ, suc, ◌+◌, ◌-◌, ◌<◌, ◌≤◌, List, [], ◌∷◌, length, take, drop, refl, sym, ap, subst, ◌∙◌, arith}
-use Rattle.std.specs.Prelude.{true, false, ◌==◌, Some, None, if◌then◌else◌}
-use Rattle.xmi_read.specs.References.{parts_of, with_first, path, path_of, feature_path_of}
+use Rattle.std.specs.Prelude.{true, false, ◌==◌, None, if◌then◌else◌}
+use Rattle.xmi_read.specs.References.{parts_of, with_first, named_path, path_of, named_feature, feature_path_of}
 use Rattle.xmi_read.specs.Cuts.{place_of}
 use Rattle.xmi_read.proofs.Cuts.{rest_cut}
 
@@ -53,7 +53,7 @@ long t n m e h f g =
 
 pub fits : (t : List ℕ) (n m : ℕ) → n ≡ place_of 47 t → n < length t
     → m ≡ place_of 47 (take (length t - (n + 1)) (drop (n + 1) t)) → length (take (length t - (n + 1)) (drop (n + 1) t)) ≤ m
-    → path_of ([] ∷ parts_of t) ≡ Some (path (take n t) (take (length t - (n + 1)) (drop (n + 1) t)))
+    → path_of ([] ∷ parts_of t) ≡ named_path (take n t) (take (length t - (n + 1)) (drop (n + 1) t))
 fits t n m e h f g =
     let name = take (length t - (n + 1)) (drop (n + 1) t) in
     ap (λ parts. path_of ([] ∷ parts)) (parts_cut t n e h ∙ ap (λ parts. take n t ∷ parts) (parts_whole name m f g))
@@ -80,7 +80,7 @@ two_parts t n m e h f g = ap (λ parts. feature_path_of ([] ∷ parts)) (parts_c
 
 pub three_parts : (t : List ℕ) (n m k : ℕ) → n ≡ place_of 47 t → n < length t → m ≡ place_of 47 (rest t n) → m < length (rest t n)
     → k ≡ place_of 47 (rest (rest t n) m) → length (rest (rest t n) m) ≤ k
-    → feature_path_of ([] ∷ parts_of t) ≡ Some (path (take n t) (take m (rest t n)), rest (rest t n) m)
+    → feature_path_of ([] ∷ parts_of t) ≡ named_feature (take n t) (take m (rest t n)) (rest (rest t n) m)
 three_parts t n m k e h f g i j =
     ap (λ parts. feature_path_of ([] ∷ parts))
     (parts_cut t n e h ∙ ap (λ parts. take n t ∷ parts) (parts_cut (rest t n) m f g ∙ ap (λ parts. take m (rest t n) ∷ parts) (parts_whole (rest (rest t n) m) k i j)))

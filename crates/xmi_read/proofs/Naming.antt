@@ -11,7 +11,7 @@ use Rattle.xmi_read.specs.Markup.{given, has_text, is_bad_flag}
 use Rattle.xmi_read.specs.Outline.{Entry, Package, Class, Enum, Literal, Attribute, Reference, entry, is_package_role, is_class_role, is_enum_role, is_feature_role, name_of}
 use Rattle.xmi_read.specs.Types.{is_literal_role, literals_from}
 use Rattle.xmi_read.specs.Parts.{literal_of}
-use Rattle.xmi_read.specs.Faults.{first_fault, is_name, is_bad_name, has_point, is_prefix, is_bad_prefix, is_kept_uri, or_name, uri_of, prefix_of, is_misnamed, is_stray, flags_of}
+use Rattle.xmi_read.specs.Faults.{first_fault, is_name, is_bad_name, has_point, is_prefix, is_bad_prefix, is_kept_uri, or_name, uri_of, prefix_of, is_misnamed, is_stray, is_empty_type, flags_of}
 use Rattle.xmi_read.proofs.Roles.{packages, classes, enums, literals, features}
 use Rattle.xmi_read.proofs.Sound.{Fine, fine}
 use Rattle.xmi_read.proofs.Splits.{all_rows}
@@ -54,7 +54,7 @@ some_text name None h = h
 module _ (file before : List Entry) (behind : List Entry) where
   -- an element is named as its role wants it
   well_named : (e : Entry) → Fine file before e behind → is_misnamed e ≡ false
-  well_named e f = (or_parts (is_stray e.role behind || has_text e.site.element || list_any (is_bad_flag e.site.element) (flags_of e.role)) (is_misnamed e) f.ecore).1
+  well_named e f = (or_parts (is_stray e.role behind || is_empty_type e || has_text e.site.element || list_any (is_bad_flag e.site.element) (flags_of e.role)) (is_misnamed e) f.ecore).1
 
   package_names : (e : Entry) → is_package_role e.role ≡ true → Fine file before e behind → IsName (name_of e) × IsPrefix (prefix_of e) × IsUri (uri_of e)
   package_names = packages (λ e. Fine file before e behind → IsName (name_of e) × IsPrefix (prefix_of e) × IsUri (uri_of e))

@@ -90,6 +90,12 @@ no_type = refl
 type_of_child : first_fault (in_package (class 2 (codes "A") [] ∷ reference 3 (codes "x") [] ∷ at 4 TypeOf (codes "eType") (given (codes "href") (codes "o#//B") ∷ []) ∷ [])) ≡ is_wrong OtherFile (codes "o#//B") 4
 type_of_child = refl
 
+empty_type : first_fault (in_package (class 2 (codes "A") [] ∷ reference 3 (codes "x") [] ∷ at 4 TypeOf (codes "eType") [] ∷ [])) ≡ is_wrong NotEcore (codes "eType") 4
+empty_type = refl
+
+type_of_no_name : first_fault (in_package (class 2 (codes "A") [] ∷ reference 3 (codes "x") (of_type (codes "#//") []) ∷ class 4 [] [] ∷ [])) ≡ is_wrong NoType (codes "#//") 3
+type_of_no_name = refl
+
 no_bound : first_fault (in_package (class 2 (codes "A") [] ∷ reference 3 (codes "x") (of_type (codes "#//A") (given (codes "upperBound") (codes "0") ∷ [])) ∷ [])) ≡ is_wrong BadNumber (codes "0") 3
 no_bound = refl
 
@@ -109,6 +115,20 @@ one_sided = refl
 
 skipped_end : first_fault (in_package (class 2 (codes "A") [] ∷ reference 3 (codes "x") (of_type (codes "#//A") (given (codes "eOpposite") (codes "#//A/y") ∷ [])) ∷ named 4 SkippedReference (codes "eStructuralFeatures") (codes "y") [] ∷ [])) ≡ None
 skipped_end = refl
+
+-- a reference goes before one of its name that is left out
+abbrev real_behind : List Entry
+real_behind = in_package (class 2 (codes "A") [] ∷ reference 3 (codes "x") (of_type (codes "#//A") (given (codes "eOpposite") (codes "#//A/y") ∷ []))
+    ∷ named 4 SkippedReference (codes "eStructuralFeatures") (codes "y") [] ∷ reference 5 (codes "y") (of_type (codes "#//A") (given (codes "eOpposite") (codes "#//A/x") ∷ [])) ∷ [])
+
+real_end : first_fault real_behind ≡ None
+real_end = refl
+
+real_opposites : map (λ f. f.kind) (parts_of real_behind).features ≡ Refer (class_no 0) false (Some (feature_no 1)) ∷ Refer (class_no 0) false (Some (feature_no 0)) ∷ []
+real_opposites = refl
+
+nameless_end : first_fault (in_package (class 2 (codes "A") [] ∷ reference 3 (codes "x") (of_type (codes "#//A") (given (codes "eOpposite") (codes "#//A/") ∷ [])) ∷ named 4 SkippedReference (codes "eStructuralFeatures") [] [] ∷ [])) ≡ is_wrong BadOpposite (codes "x") 3
+nameless_end = refl
 
 -- ## Packages and literals
 

@@ -9,7 +9,7 @@ use Rattle.doc_text.specs.declared.tree.Element.{Element}
 use Rattle.doc_text.specs.declared.tree.Prefix.{Prefix}
 use Rattle.xmi_read.specs.Markup.{Site, site, given, is_typed, elements_in, sub_elements}
 use Rattle.xmi_read.specs.Outline.{Entry, Role, entry, Literal, Attribute, Reference, SkippedAttribute, SkippedReference, Super, TypeOf, SkippedType, SubPackage, Stray, is_named, is_quiet, is_skipped, has_type, other_children, feature_children, feature_outline, feature, class_children, enum_children, classifier, package_children, package_outline, is_package, is_around, around_children, outline}
-use Rattle.doc_text.specs.Sizes.{total, child_layer, size_layer, size_of_element, size_of_child, size}
+use Rattle.doc_text.specs.Sizes.{total, child_layer, size_of_element, size_of_child, size}
 use Rattle.doc_text.proofs.Sizes.{element_is, child_is}
 
 -- ## The size of an element, by those in it
@@ -57,7 +57,7 @@ with_others r outer e = holds e _ (others (e.declared ++ outer) (sub_elements e.
 in_feature : (role : Role) (outer : List Prefix) (es : List Element) (typed : Bool) → length (feature_children role typed outer es) ≤ all es
 in_feature role outer [] typed = omega arith
 in_feature role outer (e ∷ es) typed =
-    by (is_quiet e) (is_named (codes "eType") e && not typed && is_some (given (codes "href") e)) (in_feature role outer es typed) (in_feature role outer es true)
+    by (is_quiet e) (is_named (codes "eType") e && not typed) (in_feature role outer es typed) (in_feature role outer es true)
   where
     by : (quiet type : Bool) → length (feature_children role typed outer es) ≤ all es → length (feature_children role true outer es) ≤ all es
         → length (if quiet then feature_children role typed outer es

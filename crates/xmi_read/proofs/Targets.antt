@@ -1,10 +1,10 @@
 -- What a reference names is in the lists: classes, enumerations and features by their numbers.
-use Rattle.std.proofs.Common.{◌≡◌, ℕ, suc, ◌+◌, ◌<◌, List, [], ◌∷◌, ◌++◌, refl, ap, ◌∙◌, subst, arith}
+use Rattle.std.proofs.Common.{◌≡◌, ◌≢◌, ℕ, suc, ◌+◌, ◌<◌, List, [], ◌∷◌, ◌++◌, refl, ap, ◌∙◌, subst, arith}
 use Rattle.std.specs.Prelude.{Bool, true, false, ◌==◌, ◌&&◌, bytes_eq, Option, Some, None, if◌then◌else◌}
-use Rattle.std.proofs.lemmas.Bool.{and_parts}
+use Rattle.std.specs.Option.{option_or}
 use Rattle.std.proofs.lemmas.Option.{none-some, same_Some}
 use Rattle.xmi_read.specs.Outline.{Entry, is_class_role, is_enum_role, is_feature_role, is_skipped_role, count, name_of}
-use Rattle.xmi_read.specs.References.{Path, Target, OfClass, OfEnum, OfData, Stand, first_stand, past, target_here, is_named_by, target_from, target, then_, local_target, path_of, parts_of, fragment, class_of, class_named, Own, Kept, Skips, own_from, own_named, feature_path_of, feature_named, names_file}
+use Rattle.xmi_read.specs.References.{Path, Target, OfClass, OfEnum, OfData, Stand, first_stand, past, target_here, is_named_by, target_from, target, then_, local_target, path_of, parts_of, fragment, class_of, class_named, Own, Kept, Skips, own_from, own_feature, own_named, feature_path_of, feature_named, names_file}
 use Rattle.xmi_read.proofs.Tests.{false-true}
 
 pub then_some : {A B : Type 0} (o : Option A) (f : A → Option B) (y : B) → then_ o f ≡ Some y → (x : A) × (o ≡ Some x) × (f x ≡ Some y)
@@ -118,19 +118,40 @@ kept_later f g e d es w = record {
     by true = omega arith
     by false = refl
 
-kept_at : (class : ℕ) (name : List ℕ) (c f : ℕ) (es : List Entry) (g : ℕ) (d : Entry) → own_from class name c f es ≡ Some (Kept g d) → KeptAt f es g d
+kept_at : (class : ℕ) (name : List ℕ) (c f : ℕ) (es : List Entry) (g : ℕ) (d : Entry) → own_from true class name c f es ≡ Some (Kept g d) → KeptAt f es g d
 kept_at class name c f [] g d h = absurd (none-some (Kept g d) h)
 kept_at class name c f (e ∷ es) g d h =
-    by (c == suc class && bytes_eq (name_of e) name && is_feature_role e.role) (c == suc class && bytes_eq (name_of e) name && is_skipped_role e.role) refl h
+    by (c == suc class && bytes_eq (name_of e) name) (is_feature_role e.role) refl h
     (kept_at class name (if is_class_role e.role then suc c else c) (if is_feature_role e.role then suc f else f) es g d)
   where
-    by : (t u : Bool) → (c == suc class && bytes_eq (name_of e) name && is_feature_role e.role) ≡ t
-        → (if t then Some (Kept f e) else (if u then Some Skips else own_from class name (if is_class_role e.role then suc c else c) (if is_feature_role e.role then suc f else f) es)) ≡ Some (Kept g d)
-        → (own_from class name (if is_class_role e.role then suc c else c) (if is_feature_role e.role then suc f else f) es ≡ Some (Kept g d) → KeptAt (if is_feature_role e.role then suc f else f) es g d)
+    by : (t u : Bool) → is_feature_role e.role ≡ u
+        → option_or (if t then (if u then Some (Kept f e) else None) else None) (own_from true class name (if is_class_role e.role then suc c else c) (if is_feature_role e.role then suc f else f) es) ≡ Some (Kept g d)
+        → (own_from true class name (if is_class_role e.role then suc c else c) (if is_feature_role e.role then suc f else f) es ≡ Some (Kept g d) → KeptAt (if is_feature_role e.role then suc f else f) es g d)
         → KeptAt f (e ∷ es) g d
-    by true u r h later = kept_first f g e d es (and_parts (c == suc class && bytes_eq (name_of e) name) (is_feature_role e.role) r).1 h
-    by false true r h later = absurd (false-true (ap is_kept h))
-    by false false r h later = kept_later f g e d es (later h)
+    by true true r h later = kept_first f g e d es r h
+    by true false r h later = kept_later f g e d es (later h)
+    by false u r h later = kept_later f g e d es (later h)
+
+-- what is left out is not kept
+none_kept : (class : ℕ) (name : List ℕ) (c f : ℕ) (es : List Entry) (g : ℕ) (d : Entry) → own_from false class name c f es ≢ Some (Kept g d)
+none_kept class name c f [] g d h = none-some (Kept g d) h
+none_kept class name c f (e ∷ es) g d h =
+    by (c == suc class && bytes_eq (name_of e) name) (is_skipped_role e.role) h
+    (none_kept class name (if is_class_role e.role then suc c else c) (if is_feature_role e.role then suc f else f) es g d)
+  where
+    by : (t u : Bool)
+        → option_or (if t then (if u then Some Skips else None) else None) (own_from false class name (if is_class_role e.role then suc c else c) (if is_feature_role e.role then suc f else f) es) ≡ Some (Kept g d)
+        → own_from false class name (if is_class_role e.role then suc c else c) (if is_feature_role e.role then suc f else f) es ≢ Some (Kept g d) → ⊥
+    by true true h later = false-true (ap is_kept h)
+    by true false h later = later h
+    by false u h later = later h
+
+feature_at : (class : ℕ) (name : List ℕ) (file : List Entry) (g : ℕ) (d : Entry) → own_feature class name file ≡ Some (Kept g d) → KeptAt 0 file g d
+feature_at class name file g d h = by (own_from true class name 0 0 file) refl h
+  where
+    by : (o : Option Own) → own_from true class name 0 0 file ≡ o → option_or o (own_from false class name 0 0 file) ≡ Some (Kept g d) → KeptAt 0 file g d
+    by (Some own) e h = kept_at class name 0 0 file g d (e ∙ h)
+    by None e h = absurd (none_kept class name 0 0 file g d h)
 
 pub feature_named_at : (file : List Entry) (word : List ℕ) (g : ℕ) (d : Entry) → feature_named file word ≡ Some (Kept g d) → KeptAt 0 file g d
 feature_named_at file word g d h = by (names_file word) h
@@ -139,5 +160,5 @@ feature_named_at file word g d h = by (names_file word) h
     by true h = absurd (none-some (Kept g d) h)
     by false h =
         let r = then_some (feature_path_of (parts_of (fragment word))) (own_named file) (Kept g d) h in
-        let q = then_some (then_ (target file r.0.0) class_of) (λ class. own_from class r.0.1 0 0 file) (Kept g d) r.2 in
-        kept_at q.0 r.0.1 0 0 file g d q.2
+        let q = then_some (then_ (target file r.0.0) class_of) (λ class. own_feature class r.0.1 file) (Kept g d) r.2 in
+        feature_at q.0 r.0.1 file g d q.2

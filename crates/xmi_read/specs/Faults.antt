@@ -13,7 +13,7 @@ use Rattle.ecore_meta.specs.Valid.{number_of}
 pub use Rattle.xmi_read.specs.declared.fault.Kind.{Kind}
 pub use Rattle.xmi_read.specs.declared.fault.Kind.TheVariants.{NotEcore, SubPackage as IsSubPackage, Generic, NoName, TwiceName, OtherFile, NoType, SuperCycle, BadOpposite, BadNumber}
 use Rattle.xmi_read.specs.Markup.{given, flag, is_bad_flag, has_text, sub_elements}
-use Rattle.xmi_read.specs.Outline.{Entry, Role, Around, Package, Class, Enum as EnumRole, Data, Literal, Attribute as AttributeRole, Reference, SkippedAttribute, SkippedReference, Super, TypeOf, SubPackage, Stray, is_generic, is_package_role, is_class_role, is_enum_role, is_classifier_role, is_feature_role, count, name_of}
+use Rattle.xmi_read.specs.Outline.{Entry, Role, Around, Package, Class, Enum as EnumRole, Data, Literal, Attribute as AttributeRole, Reference, SkippedAttribute, SkippedReference, Super, TypeOf, SkippedType, SubPackage, Stray, is_generic, is_package_role, is_class_role, is_enum_role, is_classifier_role, is_feature_role, count, name_of}
 use Rattle.xmi_read.specs.References.{class_named, feature_named, Own, Kept, Skips}
 use Rattle.xmi_read.specs.Types.{literals_of, literal_text}
 use Rattle.xmi_read.specs.Rows.{Typed, ByData, ByClass, Foreign, Untyped, typed, href, super_words, child_typed, is_own_super, super_numbers, twice_seen, type_behind, feature_rows, FeatureRow, foreign_word}
@@ -93,14 +93,23 @@ is_misnamed e = by e.role
     by Reference = is_bad_name (name_of e) || has_point (name_of e)
     by r = false
 
+abbrev pub is_child_type : Role → Bool
+is_child_type TypeOf = true
+is_child_type SkippedType = true
+is_child_type r = false
+
 -- an element that is not of the form as a whole
 abbrev pub is_stray : Role → List Entry → Bool
 is_stray Stray behind = true
 is_stray Around behind = not (list_any (λ e. is_package_role e.role) behind)
 is_stray r behind = false
 
+-- a type of a feature that says nothing of which it is
+abbrev pub is_empty_type : Entry → Bool
+is_empty_type e = is_child_type e.role && is_none (given (codes "href") e.site.element)
+
 abbrev pub is_not_ecore : Entry → List Entry → Bool
-is_not_ecore e behind = is_stray e.role behind || has_text e.site.element || list_any (is_bad_flag e.site.element) (flags_of e.role) || is_misnamed e
+is_not_ecore e behind = is_stray e.role behind || is_empty_type e || has_text e.site.element || list_any (is_bad_flag e.site.element) (flags_of e.role) || is_misnamed e
 
 abbrev pub is_attribute_role : Role → Bool
 is_attribute_role AttributeRole = true

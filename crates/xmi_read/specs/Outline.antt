@@ -42,12 +42,12 @@ other_children outer (e ∷ es) = (if is_quiet e then [] else entry Stray (site 
 abbrev pub is_skipped : Element → Bool
 is_skipped e = flag (codes "derived") e || flag (codes "volatile") e || flag (codes "transient") e
 
--- The children of a feature: one names its type, where no attribute does.
+-- The children of a feature: the first `eType` stands for its type, where no attribute does.
 abbrev pub feature_children : Role → Bool → List Prefix → List Element → List Entry
 feature_children role typed outer [] = []
 feature_children role typed outer (e ∷ es) =
     if is_quiet e then feature_children role typed outer es
-    else if is_named (codes "eType") e && not typed && is_some (given (codes "href") e) then entry role (site outer e) ∷ (other_children (e.declared ++ outer) (sub_elements e.children) ++ feature_children role true outer es)
+    else if is_named (codes "eType") e && not typed then entry role (site outer e) ∷ (other_children (e.declared ++ outer) (sub_elements e.children) ++ feature_children role true outer es)
     else entry Stray (site outer e) ∷ feature_children role typed outer es
 
 abbrev pub has_type : Element → Bool

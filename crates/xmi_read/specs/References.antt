@@ -1,7 +1,8 @@
 -- References within a file: to a class by its package and name, to a feature by its class and name.
 -- (EMF: the fragments `//A`, `/n/A` and `//A/f`, behind `#` or alone.)
-use Rattle.std.specs.Prelude.{ℕ, suc, ◌-◌, ◌==◌, ◌&&◌, ◌||◌, Bool, false, List, [], ◌∷◌, bytes_eq, Option, Some, None, if◌then◌else◌}
+use Rattle.std.specs.Prelude.{ℕ, suc, ◌-◌, ◌==◌, ◌&&◌, ◌||◌, Bool, true, false, List, [], ◌∷◌, bytes_eq, Option, Some, None, option_map, if◌then◌else◌}
 use Rattle.std.specs.List.{list_any, list_all}
+use Rattle.std.specs.Option.{option_or}
 use Rattle.std.specs.Int.{is_in_range}
 use Rattle.doc_text.specs.declared.tree.Element.{Element}
 use Rattle.ecore_meta.specs.Valid.{number_of}
@@ -39,13 +40,22 @@ pub record Path : Type 0 where
 abbrev pub path : List ℕ → List ℕ → Path
 path p n = record { holder = p; name = n }
 
+-- without a name nothing is named
+abbrev pub named_path : List ℕ → List ℕ → Option Path
+named_path p [] = None
+named_path p n = Some (path p n)
+
 abbrev pub path_of : List (List ℕ) → Option Path
-path_of ([] ∷ p ∷ n ∷ []) = Some (path p n)
+path_of ([] ∷ p ∷ n ∷ []) = named_path p n
 path_of parts = None
 
 -- and a feature of it
+abbrev pub named_feature : List ℕ → List ℕ → List ℕ → Option (Path × List ℕ)
+named_feature p n [] = None
+named_feature p n f = option_map (λ c. (c, f)) (named_path p n)
+
 abbrev pub feature_path_of : List (List ℕ) → Option (Path × List ℕ)
-feature_path_of ([] ∷ p ∷ n ∷ f ∷ []) = Some (path p n, f)
+feature_path_of ([] ∷ p ∷ n ∷ f ∷ []) = named_feature p n f
 feature_path_of parts = None
 
 -- ## Packages by number or name
@@ -123,16 +133,24 @@ pub data Own : Type 0 where
   -- one that is derived, volatile or transient
   Skips : Own
 
--- A class's own feature of this name: the first from here on, where so many classes and features stand before.
-abbrev pub own_from : ℕ → List ℕ → ℕ → ℕ → List Entry → Option Own
-own_from class name c f [] = None
-own_from class name c f (e ∷ es) =
-    if c == suc class && bytes_eq (name_of e) name && is_feature_role e.role then Some (Kept f e)
-    else if c == suc class && bytes_eq (name_of e) name && is_skipped_role e.role then Some Skips
-    else own_from class name (if is_class_role e.role then suc c else c) (if is_feature_role e.role then suc f else f) es
+-- what an entry declares among the attributes and references, or among what is left out
+abbrev pub own_here : Bool → ℕ → Entry → Option Own
+own_here true f e = if is_feature_role e.role then Some (Kept f e) else None
+own_here false f e = if is_skipped_role e.role then Some Skips else None
+
+-- the first of this name that a class declares from here on, where so many classes and features stand before
+abbrev pub own_from : Bool → ℕ → List ℕ → ℕ → ℕ → List Entry → Option Own
+own_from kept class name c f [] = None
+own_from kept class name c f (e ∷ es) = option_or
+    (if c == suc class && bytes_eq (name_of e) name then own_here kept f e else None)
+    (own_from kept class name (if is_class_role e.role then suc c else c) (if is_feature_role e.role then suc f else f) es)
+
+-- A class's own feature of this name: an attribute or a reference goes before what is left out.
+abbrev pub own_feature : ℕ → List ℕ → List Entry → Option Own
+own_feature class name file = option_or (own_from true class name 0 0 file) (own_from false class name 0 0 file)
 
 abbrev pub own_named : List Entry → Path × List ℕ → Option Own
-own_named file r = then_ (then_ (target file r.0) class_of) (λ class. own_from class r.1 0 0 file)
+own_named file r = then_ (then_ (target file r.0) class_of) (λ class. own_feature class r.1 file)
 
 -- the feature that a word names
 abbrev pub feature_named : List Entry → List ℕ → Option Own

@@ -2,7 +2,7 @@
 ghost use Rattle.std.specs.Prelude.{◌≡◌, IfOk, option_map, bytes_eq};
 ghost use Rattle.std.specs.Option.{option_copied};
 ghost use Rattle.std.specs.List.{list_any};
-ghost use Rattle.xmi_read.specs.References.{own_from, target as target_in};
+ghost use Rattle.xmi_read.specs.References.{own_feature, target as target_in};
 ghost use Rattle.xmi_read.specs.Types.{literals_of, literal_text as literal_text_of, first_text as first_text_of};
 ghost use Rattle.xmi_read.specs.Entries.{entries_of};
 ghost use Rattle.xmi_read.specs.Targets.{own_of, target_of, path_of as path_seen};
@@ -86,7 +86,7 @@ impl<'a> File<'a> {
 
     /// A class's own feature of this name.
     pub(crate) fn own(&self, class: usize, name: &[u8]) -> Option<Own<'a>>
-        ensures { option_map own_of result ≡ own_from class name.now 0 0 (entries_of self.now) }
+        ensures { option_map own_of result ≡ own_feature class name.now (entries_of self.now) }
     {
         own_named(&self.entries, &self.owns, class, name)
     }

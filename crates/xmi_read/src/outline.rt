@@ -33,7 +33,7 @@ pub enum Role {
     SkippedReference,
     /// A child that names a supertype.
     Super,
-    /// A child that names the type of a feature.
+    /// A child that stands for the type of a feature.
     TypeOf,
     SkippedType,
     SubPackage,
@@ -161,17 +161,11 @@ fn push_feature_child<'a>(
     Ok(typed)
 }
 
-// Whether a child names the type of a feature, which may have one already.
+// Whether a child stands for the type of a feature, which may have one already.
 fn is_type_child(typed: bool, element: &Element) -> bool
-    ensures { result ≡ (is_named_of (codes "eType") element.now && not typed && is_some (given_of (codes "href") element.now)) }
+    ensures { result ≡ (is_named_of (codes "eType") element.now && not typed) }
 {
-    is_named("eType", element) && !typed && has_reference(element)
-}
-
-fn has_reference(element: &Element) -> bool
-    ensures { result ≡ is_some (given_of (codes "href") element.now) }
-{
-    given("href", element).is_some()
+    is_named("eType", element) && !typed
 }
 
 fn push_feature_children<'a>(
@@ -245,6 +239,12 @@ fn push_feature<'a>(
         return push_kept_or_skipped(out, Role::Reference, Role::SkippedReference, element, scope);
     }
     push_entry(out, Role::Stray, element, scope)
+}
+
+fn has_reference(element: &Element) -> bool
+    ensures { result ≡ is_some (given_of (codes "href") element.now) }
+{
+    given("href", element).is_some()
 }
 
 // Whether a child names a supertype.

@@ -1,14 +1,14 @@
 // The features that references name: by a class and a name.
 ghost use Rattle.std.specs.Prelude.{◌≡◌, ℕ, ◌==◌, ◌&&◌, suc, [], ◌∷◌, bytes_eq, MatchOption, None, Some};
 ghost use Rattle.xmi_read.specs.Outline.{name_of as name_of_entry};
-ghost use Rattle.xmi_read.specs.References.{parts_of, feature_path_of as feature_path_of_parts, own_from, own_named as own_named_in, feature_named as feature_named_in};
+ghost use Rattle.xmi_read.specs.References.{parts_of, named_feature as named_feature_of, feature_path_of as feature_path_of_parts, own_named as own_named_in, feature_named as feature_named_in};
 ghost use Rattle.xmi_read.specs.Entries.{entry_of, entries_of};
 ghost use Rattle.xmi_read.specs.Targets.{own_of, feature_path};
 
 use crate::cut::place_of;
 use crate::file::File;
 use crate::outline::Entry;
-use crate::references::{Path, fragment, names_file};
+use crate::references::{Path, fragment, named_path, names_file};
 use crate::target::Target;
 
 /// A feature of a class.
@@ -23,6 +23,20 @@ pub(crate) struct FeaturePath<'a> {
 pub(crate) enum Own<'a> {
     Kept(usize, Entry<'a>),
     Skips,
+}
+
+// The path to a feature of a class. Without a name of each nothing is named.
+fn named_feature<'a>(holder: &'a [u8], name: &'a [u8], feature: &'a [u8]) -> Option<FeaturePath<'a>>
+    ensures { MatchOption result (named_feature_of holder.now name.now feature.now ≡ None)
+        (λ p. named_feature_of holder.now name.now feature.now ≡ Some (feature_path p)) }
+{
+    if feature.is_empty() {
+        return None;
+    }
+    match named_path(holder, name) {
+        Some(path) => Some(FeaturePath { path, feature }),
+        None => None,
+    }
 }
 
 // The feature behind the first slash.
@@ -44,11 +58,7 @@ fn rooted_feature_path(text: &[u8]) -> Option<FeaturePath<'_>>
     if third < feature.len() {
         return None;
     }
-    let path = Path {
-        holder: &text[..at],
-        name: &behind[..end],
-    };
-    Some(FeaturePath { path, feature })
+    named_feature(&text[..at], &behind[..end], feature)
 }
 
 /// The feature that a fragment names.

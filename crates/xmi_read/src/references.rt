@@ -1,6 +1,6 @@
 // References within a file: what they name by package, class and feature.
 ghost use Rattle.std.specs.Prelude.{◌≡◌, [], ◌∷◌, MatchOption, None, Some};
-ghost use Rattle.xmi_read.specs.References.{has_hash as has_hash_of, names_file as names_file_of, fragment as fragment_of, parts_of, path, path_of as path_of_parts};
+ghost use Rattle.xmi_read.specs.References.{has_hash as has_hash_of, names_file as names_file_of, fragment as fragment_of, parts_of, path, named_path as named_path_of, path_of as path_of_parts};
 
 use crate::cut::place_of;
 
@@ -43,6 +43,17 @@ pub(crate) fn fragment(text: &[u8]) -> &[u8]
     text
 }
 
+/// The path to a name. Without a name nothing is named.
+pub(crate) fn named_path<'a>(holder: &'a [u8], name: &'a [u8]) -> Option<Path<'a>>
+    ensures { MatchOption result (named_path_of holder.now name.now ≡ None)
+        (λ p. named_path_of holder.now name.now ≡ Some (path p.holder.now p.name.now)) }
+{
+    if name.is_empty() {
+        return None;
+    }
+    Some(Path { holder, name })
+}
+
 // The path behind the first slash.
 fn rooted_path(text: &[u8]) -> Option<Path<'_>>
     ensures { MatchOption result (path_of_parts ([] ∷ parts_of text.now) ≡ None)
@@ -57,10 +68,7 @@ fn rooted_path(text: &[u8]) -> Option<Path<'_>>
     if end < name.len() {
         return None;
     }
-    Some(Path {
-        holder: &text[..at],
-        name,
-    })
+    named_path(&text[..at], name)
 }
 
 /// The classifier that a fragment names.

@@ -1,3 +1,6 @@
+use Rattle.std.proofs.Common.{◌≡◌, sym, subst}
+use Rattle.std.specs.Prelude.{MatchOption, None, Some}
+use Rattle.xmi_read.specs.Targets.{feature_path}
 use Rattle.xmi_read.proofs.Fragments.{one_part, two_parts, three_parts, four_parts}
 use Rattle.xmi_read.proofs.own.rooted_feature_path.Goals as goal
 
@@ -13,4 +16,5 @@ returns-then-third-feature c =
 
 pub returns : goal.returns
 returns c =
-    three_parts _ _ _ _ c.place_of-at.ensures.place c.if-at-text.false c.place_of-end.ensures.place c.if-end-behind.false c.place_of-third.ensures.place c.if-third-feature.false
+    subst (λ o. MatchOption c.named_feature.result (o ≡ None) (λ p. o ≡ Some (feature_path p)))
+    (sym (three_parts _ _ _ _ c.place_of-at.ensures.place c.if-at-text.false c.place_of-end.ensures.place c.if-end-behind.false c.place_of-third.ensures.place c.if-third-feature.false)) c.named_feature.ensures

@@ -1,6 +1,6 @@
-use Rattle.std.proofs.Common.{◌≡◌, List, [], ◌++◌, map, drop, sym, ap, ◌∙◌, subst, arith}
-use Rattle.std.proofs.lemmas.List.{append-nil, drop_all}
-use Rattle.xmi_read.specs.declared.outline.Entry.{Entry as CodeEntry}
+use Rattle.std.proofs.Common.{◌≡◌, ◌++◌, map, sym, ap, ◌∙◌, subst}
+use Rattle.std.specs.Prelude.{true, false}
+use Rattle.std.proofs.lemmas.List.{map-append}
 use Rattle.xmi_read.specs.Entries.{entries_of}
 use Rattle.xmi_read.specs.Targets.{own_of}
 use Rattle.xmi_read.specs.Keys.{keys_of, AreFirsts}
@@ -9,15 +9,16 @@ use Rattle.xmi_read.proofs.owns.owns_in.Goals as goal
 
 pub returns : goal.returns
 returns c =
-    let all = owns_of (entries_of c.args.entries.now) in
-    let end : drop c.loop-i.i c.args.entries.now ≡ [] = drop_all c.loop-i.i c.args.entries.now (omega (arith, c.loop-i-test.false)) in
-    let keys : keys_of c.loop-i.keys.items ≡ map row_key all =
-    sym (append-nil (keys_of c.loop-i.keys.items))
-    ∙ ap (λ (l : List CodeEntry). keys_of c.loop-i.keys.items ++ map row_key (owns_from c.loop-i.classes c.loop-i.features (entries_of l))) (sym end)
-    ∙ c.loop-i.invariant.keys in
+    let file = entries_of c.args.entries.now in
+    let kept = owns_from true 0 0 file in
+    let skipped = owns_from false 0 0 file in
+    let keys : keys_of c.push_owns-2.new.keys.items ≡ map row_key (owns_of file) =
+    c.in_ok-push_owns-2.ensures.keys
+    ∙ ap (λ l. l ++ map row_key skipped) (c.in_ok-push_owns.ensures.keys ∙ ap (λ l. keys_of l ++ map row_key kept) c.new-keys.ensures.items)
+    ∙ sym (map-append row_key kept skipped) in
     record {
       places = subst (AreFirsts c.in_ok-places.places) (ap keys_of c.deref.ensures.value ∙ keys) c.in_ok-places.ensures;
-      owns = sym (append-nil (map own_of c.loop-i.owns.items))
-          ∙ ap (λ (l : List CodeEntry). map own_of c.loop-i.owns.items ++ map row_own (owns_from c.loop-i.classes c.loop-i.features (entries_of l))) (sym end)
-          ∙ c.loop-i.invariant.owns;
+      owns = c.in_ok-push_owns-2.ensures.owns
+          ∙ ap (λ l. l ++ map row_own skipped) (c.in_ok-push_owns.ensures.owns ∙ ap (λ l. map own_of l ++ map row_own kept) c.new-owns.ensures.items)
+          ∙ sym (map-append row_own kept skipped);
     }

@@ -105,3 +105,16 @@ fn two_packages(rt: HostRuntime) -> Result<(), Fail> {
     );
     Ok(())
 }
+
+#[test]
+fn a_real_feature_goes_first(rt: HostRuntime) -> Result<(), Fail> {
+    let shown = read_package(
+        rt.alloc(),
+        "name=\"P\" nsURI=\"P\" nsPrefix=\"P\">\n<eClassifiers xsi:type=\"ecore:EClass\" name=\"A\">\n<eStructuralFeatures xsi:type=\"ecore:EReference\" name=\"b\" eType=\"#//B\" eOpposite=\"#//B/a\"/>\n<eStructuralFeatures xsi:type=\"ecore:EReference\" name=\"c\" eType=\"#//B\" eOpposite=\"#//B/none\"/>\n</eClassifiers>\n<eClassifiers xsi:type=\"ecore:EClass\" name=\"B\">\n<eStructuralFeatures xsi:type=\"ecore:EReference\" name=\"a\" derived=\"true\"/>\n<eStructuralFeatures xsi:type=\"ecore:EReference\" name=\"a\" eType=\"#//A\" eOpposite=\"#//A/b\"/>\n<eStructuralFeatures xsi:type=\"ecore:EReference\" name=\"a\" volatile=\"true\"/>\n<eStructuralFeatures xsi:type=\"ecore:EReference\" name=\"none\" transient=\"true\"/>\n</eClassifiers>\n",
+    )?;
+    assert_eq!(rt;
+        shown.as_str(),
+        "package P P P\nclass A in 0 of with 0 1\nclass B in 0 of with 2\nfeature b of 0: refers to 1 opposite 2\nfeature c of 0: refers to 1\nfeature a of 1: refers to 0 opposite 0\nskipped a of 1\nskipped a of 1\nskipped none of 1\n"
+    );
+    Ok(())
+}

@@ -34,6 +34,14 @@ fn what_is_not_of_the_form(rt: HostRuntime) -> Result<(), Fail> {
             "NotEcore 'eType' 4:1",
         ),
         (
+            "name=\"P\" nsURI=\"P\" nsPrefix=\"P\">\n<eClassifiers xsi:type=\"ecore:EClass\" name=\"N\">\n<eStructuralFeatures xsi:type=\"ecore:EReference\" name=\"r\">\n<eType/>\n<eType href=\"#//N\"/>\n</eStructuralFeatures>\n</eClassifiers>\n",
+            "NotEcore 'eType' 4:1",
+        ),
+        (
+            "name=\"P\" nsURI=\"P\" nsPrefix=\"P\">\n<eClassifiers xsi:type=\"ecore:EClass\" name=\"N\">\n<eStructuralFeatures xsi:type=\"ecore:EAttribute\" name=\"a\" derived=\"true\">\n<eType/>\n</eStructuralFeatures>\n</eClassifiers>\n",
+            "NotEcore 'eType' 4:1",
+        ),
+        (
             "name=\"P\" nsURI=\"P\" nsPrefix=\"xsi\">\n<eClassifiers xsi:type=\"ecore:EClass\" name=\"N\"/>\n",
             "NotEcore 'EPackage' 1:1",
         ),
@@ -189,6 +197,14 @@ fn types_that_are_none(rt: HostRuntime) -> Result<(), Fail> {
             "name=\"P\" nsURI=\"P\" nsPrefix=\"P\">\n<eClassifiers xsi:type=\"ecore:EClass\" name=\"N\">\n<eStructuralFeatures xsi:type=\"ecore:EReference\" name=\"r\" eType=\"ecore:EDataType http://www.eclipse.org/emf/2002/Ecore#//EString\"/>\n</eClassifiers>\n",
             "NoType 'ecore:EDataType http://www.eclipse.org/emf/2002/Ecore#//EString' 3:1",
         ),
+        (
+            "name=\"P\" nsURI=\"P\" nsPrefix=\"P\">\n<eClassifiers xsi:type=\"ecore:EClass\" name=\"N\">\n<eStructuralFeatures xsi:type=\"ecore:EReference\" name=\"r\" eType=\"#//\"/>\n</eClassifiers>\n<eClassifiers xsi:type=\"ecore:EClass\"/>\n",
+            "NoType '#//' 3:1",
+        ),
+        (
+            "name=\"P\" nsURI=\"P\" nsPrefix=\"P\">\n<eClassifiers xsi:type=\"ecore:EClass\" name=\"N\">\n<eStructuralFeatures xsi:type=\"ecore:EReference\" name=\"r\"/>\n<eType href=\"#//N\"/>\n</eClassifiers>\n",
+            "NoType '' 3:1",
+        ),
     ];
     for (content, told) in cases {
         let shown = read_package(rt.alloc(), content)?;
@@ -237,6 +253,10 @@ fn opposites_that_do_not_fit(rt: HostRuntime) -> Result<(), Fail> {
         ),
         (
             "name=\"P\" nsURI=\"P\" nsPrefix=\"P\">\n<eClassifiers xsi:type=\"ecore:EClass\" name=\"A\">\n<eStructuralFeatures xsi:type=\"ecore:EReference\" name=\"b\" eType=\"#//B\" eOpposite=\"other.ecore#//B/a\"/>\n</eClassifiers>\n<eClassifiers xsi:type=\"ecore:EClass\" name=\"B\">\n<eStructuralFeatures xsi:type=\"ecore:EReference\" name=\"a\" eType=\"#//A\" eOpposite=\"#//A/b\"/>\n</eClassifiers>\n<eClassifiers xsi:type=\"ecore:EClass\" name=\"C\"/>\n",
+            "BadOpposite 'b' 3:1",
+        ),
+        (
+            "name=\"P\" nsURI=\"P\" nsPrefix=\"P\">\n<eClassifiers xsi:type=\"ecore:EClass\" name=\"A\">\n<eStructuralFeatures xsi:type=\"ecore:EReference\" name=\"b\" eType=\"#//A\" eOpposite=\"#//A/\"/>\n<eStructuralFeatures xsi:type=\"ecore:EReference\" derived=\"true\"/>\n</eClassifiers>\n",
             "BadOpposite 'b' 3:1",
         ),
     ];
