@@ -1,5 +1,6 @@
 pub mod Signs
 pub mod Symbols
+pub mod Variables
 pub mod TooDeep
 pub mod Depth
 pub mod Trees

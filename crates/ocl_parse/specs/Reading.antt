@@ -8,6 +8,7 @@ use Rattle.atl_tree.specs.Tokens.{leads_name}
 use Rattle.ocl_parse.specs.declared.refusal.ParseRefusal.{ParseRefusal}
 use Rattle.ocl_parse.specs.declared.refusal.ParseRefusal.TheVariants as R
 use Rattle.ocl_parse.specs.Symbols.{Lexeme, lexemes}
+use Rattle.ocl_parse.specs.Variables.{refused_at}
 use Rattle.ocl_parse.specs.Machine.{End, Read, Expected, Deep, read}
 
 -- whether the token before place k leads a name
@@ -21,20 +22,21 @@ led_at (suc (suc k)) (t ∷ ts) = led_at (suc k) ts
 abbrev pub lexemes_at : ℕ → List Token → List Lexeme
 lexemes_at from ts = lexemes (led_at from ts) (drop from ts)
 
--- the place of the first token, or of the text's end
-abbrev pub place_of : Place → List Lexeme → Place
-place_of end [] = end
-place_of end (t ∷ ts) = t.place
+-- where reading from a token of a list on is refused, before the first of the rest or before the end of the text: there, or at
+-- the keyword that stands before it in the place of an iterator's variable
+abbrev pub place_of : List Token → Place → ℕ → List Lexeme → Place
+place_of ts end from [] = end
+place_of ts end from (t ∷ rest) = refused_at ts from (length ts - length (t ∷ rest)) t.place
 
--- with the number of the token after the expression, of so many tokens
-abbrev pub told : ℕ → Place → End → Result (Expr × ℕ) ParseRefusal
-told n end (Read e rest) = Ok (e, n - length rest)
-told n end (Expected rest) = Err (R.Expected (place_of end rest))
-told n end (Deep p) = Err (R.TooDeep p)
+-- with the number of the token after the expression
+abbrev pub told : List Token → Place → ℕ → End → Result (Expr × ℕ) ParseRefusal
+told ts end from (Read e rest) = Ok (e, length ts - length rest)
+told ts end from (Expected rest) = Err (R.Expected (place_of ts end from rest))
+told ts end from (Deep p) = Err (R.TooDeep p)
 
 -- reading from a token of a list on, before the end of the text
 abbrev pub expr_in : List Token → Place → ℕ → Result (Expr × ℕ) ParseRefusal
-expr_in ts end from = told (length ts) end (read true (lexemes_at from ts))
+expr_in ts end from = told ts end from (read true (lexemes_at from ts))
 
 abbrev pub expr_at : Tokens → ℕ → Result (Expr × ℕ) ParseRefusal
 expr_at ts from = expr_in ts.list ts.end from
@@ -46,6 +48,14 @@ Fails (R.Lex e) r = r ≡ Err (R.Lex e)
 Fails (R.OtherUnit p) r = r ≡ Err (R.OtherUnit p)
 Fails (R.Expected p) r = r ≡ Err (R.Expected p)
 Fails (R.TooDeep p) r = r ≡ Err (R.TooDeep p)
+
+-- the refusal of the token at the place
+abbrev pub IsRefused : ParseRefusal → Place → Type 0
+IsRefused R.Memory p = Unit {0}
+IsRefused (R.Lex e) p = ⊥
+IsRefused (R.OtherUnit q) p = ⊥
+IsRefused (R.Expected q) p = q ≡ p
+IsRefused (R.TooDeep q) p = ⊥
 
 abbrev pub Gives : Expr → ℕ → Result (Expr × ℕ) ParseRefusal → Type 0
 Gives e after r = r ≡ Ok (e, after)

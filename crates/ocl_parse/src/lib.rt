@@ -13,3 +13,4 @@ pub mod sign;
 pub mod stack;
 pub mod step;
 pub mod symbol;
+pub mod variable;

@@ -3,7 +3,8 @@ ghost use Rattle.std.specs.Prelude.{◌≡◌, ◌≤◌, ◌<◌, ◌+◌, ◌|
 ghost use Rattle.atl_tree.specs.Tokens.{begins_arrow as begins_arrow_of};
 ghost use Rattle.ocl_parse.specs.Symbols.{Lexeme};
 ghost use Rattle.ocl_parse.specs.Machine.{step_of, over as over_of, alone as alone_of};
-ghost use Rattle.ocl_parse.specs.Reading.{led_at, expr_in, expr_at, Gives, Fails, Ends};
+ghost use Rattle.ocl_parse.specs.Variables.{refused_at};
+ghost use Rattle.ocl_parse.specs.Reading.{led_at, expr_in, expr_at, Gives, Fails, Ends, IsRefused};
 
 use crate::frame::{Move, Next};
 use crate::pending::end_all;
@@ -11,6 +12,7 @@ use crate::refusal::ParseRefusal;
 use crate::stack::Stack;
 use crate::step::{last, step};
 use crate::symbol::read_symbol;
+use crate::variable::refused_place;
 use atl_base::place::Place;
 use atl_tree::expr::Expr;
 use atl_tree::judge::{begins_arrow, leads_name};
@@ -57,6 +59,17 @@ fn is_named(tokens: &[Token], at: usize, led: bool) -> bool
     led || begins_arrow(&tokens[at + 1..])
 }
 
+// The refusal where the reading from a token on can't go on with the i-th, which stands at this place.
+fn refusal(alloc: Global, tokens: &[Token], from: usize, i: usize, place: Place) -> ParseRefusal
+    requires { i ≤ length tokens.now }
+    ensures { IsRefused result (refused_at tokens.now from i place) }
+{
+    match refused_place(alloc, tokens, from, i, place) {
+        Ok(place) => ParseRefusal::Expected(place),
+        Err(_) => ParseRefusal::Memory,
+    }
+}
+
 // The longest expression from the token on, before the end of the text.
 #[tactic(auto, using(crate::proofs::Lengths::length_lexemes))]
 fn parse_from(
@@ -78,9 +91,9 @@ fn parse_from(
             Move::Goes(then) => next = then,
             Move::Stops(e) => match over(alloc, &mut stack, e)? {
                 Some(whole) => return Ok((whole, i)),
-                None => return Err(ParseRefusal::Expected(token.place)),
+                None => return Err(refusal(alloc, tokens, from, i, token.place)),
             },
-            Move::Refuses => return Err(ParseRefusal::Expected(token.place)),
+            Move::Refuses => return Err(refusal(alloc, tokens, from, i, token.place)),
             Move::TooDeep(place) => return Err(ParseRefusal::TooDeep(place)),
         }
         led = leads_name(token);

@@ -58,8 +58,8 @@ fn push_unquoted(name: &mut Text, c: char) -> Result<(), AllocError>
     name.push_char(c)
 }
 
-// The text without its double quotes.
-fn unquoted(alloc: Global, text: &Text) -> Result<Text, AllocError>
+/// The text without its double quotes.
+pub(crate) fn unquoted(alloc: Global, text: &Text) -> Result<Text, AllocError>
     ensures { IfOk result (λ t. t ≡ flat_map unquoted_of text.now) }
 {
     let mut name = Text::new(alloc);

@@ -409,7 +409,7 @@ fn the_first_wrong_token_is_named(rt: HostRuntime) -> Result<(), Fail> {
         ("a->iterate(x; y : Integer = 1)", "Expected 1:30"),
         ("a->iterate(x; in : Integer = 1 | x)", "Expected 1:15"),
         ("a->select(x | )", "Expected 1:15"),
-        ("a->select(self | x)", "Expected 1:16"),
+        ("a->select(x, y | x)", "Expected 1:16"),
         ("a->select(x", "Expected 1:12"),
         ("Set", "Expected 1:4"),
         ("Set(", "Expected 1:4"),
@@ -446,6 +446,54 @@ fn the_first_wrong_token_is_named(rt: HostRuntime) -> Result<(), Fail> {
     for (text, expected) in cases {
         assert_eq!(rt; told(rt.alloc(), text, 0)?.as_str(), expected);
     }
+    Ok(())
+}
+
+#[test]
+fn a_keyword_is_no_variable(rt: HostRuntime) -> Result<(), Fail> {
+    let cases = [
+        ("a->select(self | x)", "Expected 1:11"),
+        ("a->select(true | x)", "Expected 1:11"),
+        ("a->select(String | x)", "Expected 1:11"),
+        ("a->select(Sequence | x)", "Expected 1:11"),
+        ("a->select(let | x)", "Expected 1:11"),
+        ("a->select(not | x)", "Expected 1:11"),
+        ("a->select(then | x)", "Expected 1:11"),
+        ("a->select(module | x)", "Expected 1:11"),
+        ("a->exists(if | x)", "Expected 1:11"),
+        ("a.b->\"sortedBy\"\n( self\n| x)", "Expected 2:3"),
+        ("1 + a->collect(b->any(self | x) | x)", "Expected 1:23"),
+        ("a->iterate(self ; x", "Expected 1:12"),
+        ("a->\"iterate\"(Set; x : Integer = 0 | x)", "Expected 1:14"),
+        // no iterator, no arrow, another mark, no keyword
+        ("a->foo(self | x)", "Expected 1:13"),
+        ("a.select(self | x)", "Expected 1:15"),
+        ("a->select(self ; x)", "Expected 1:16"),
+        ("a->iterate(self | x)", "Expected 1:17"),
+        ("a->select(1 | x)", "Expected 1:13"),
+        ("a->select('self' | x)", "Expected 1:18"),
+        ("a->select(- | x)", "Expected 1:13"),
+        ("a->select((self | x))", "Expected 1:17"),
+        ("a->select(self, self | x)", "Expected 1:22"),
+        ("a->select(self", "Expected 1:15"),
+        ("a->select(self)", "(call a@1:1 true select own@1:11)@1:4 6"),
+        (
+            "a->select(\"self\" | true)",
+            "(loop a@1:1 select self@1:11 true@1:20)@1:4 8",
+        ),
+        (
+            "a->iterate(x; y : Boolean = true | y)",
+            "(iterate a@1:1 x@1:12 y@1:15 Truth@1:19 true@1:29 y@1:36)@1:4 14",
+        ),
+    ];
+    for (text, expected) in cases {
+        assert_eq!(rt; told(rt.alloc(), text, 0)?.as_str(), expected);
+    }
+    // behind the token that reading begins at there is no arrow
+    assert_eq!(rt;
+        told(rt.alloc(), "a->select(self | x)", 3)?.as_str(),
+        "Expected 1:16"
+    );
     Ok(())
 }
 
