@@ -10,9 +10,10 @@ use Rattle.atl_tree.specs.declared.token.Token.{Token}
 use Rattle.atl_tree.specs.Tokens.{leads_name, begins_arrow}
 use Rattle.ocl_parse.specs.declared.refusal.ParseRefusal.{ParseRefusal}
 use Rattle.ocl_parse.specs.declared.refusal.ParseRefusal.TheVariants as R
+use Rattle.ocl_parse.specs.Variables.{refused_at}
 use Rattle.module_parse.specs.Marks.{Content, Mark, mark, content_of, marks}
 use Rattle.module_parse.specs.Machine.{State, Step, Goes, Refuses, TooDeep, step, after, run}
-use Rattle.module_parse.specs.Reading.{is_other, told, Fails}
+use Rattle.module_parse.specs.Reading.{is_other, told, Fails, IsRefused}
 
 length_marks : (led : Bool) (ts : List Token) → length (marks led ts) ≡ length ts
 length_marks led [] = refl
@@ -56,26 +57,32 @@ first : (ts : List Token) (i : ℕ) (led named : Bool) (t : Token) (c : Content)
 first ts i led named t c h =
     same_test (length (rest_at ts i t c)) (length ts) i (sym (ap length (marks_at ts i led named t c h)) ∙ length_marks led (drop i ts) ∙ length-drop i ts) h.within
 
+-- the token is the i-th
+place_no : (ts : List Token) (i : ℕ) (led named : Bool) (t : Token) (c : Content) → Here ts i led named t c → length ts - length (rest_at ts i t c) ≡ i
+place_no ts i led named t c h =
+    omega (arith, h.within, sym (ap length (marks_at ts i led named t c h)) ∙ length_marks led (drop i ts) ∙ length-drop i ts)
+
 pub run_refuses : (ts : List Token) (i : ℕ) (led named : Bool) (t : Token) (c : Content) (s : State) (end : Place) (other : Bool)
     → i < length ts → t ≡ get_or ts i t → named ≡ (led || begins_arrow (drop (i + 1) ts)) → c ≡ content_of t.sort t.text named → step true s c t.place ≡ Refuses
     → other ≡ is_other (i == 0) c
-    → told (length ts) end (run true s (marks led (drop i ts))) ≡ Err (if other then R.OtherUnit t.place else R.Expected t.place)
+    → told ts end (run true s (marks led (drop i ts))) ≡ Err (if other then R.OtherUnit t.place else R.Expected (refused_at ts 0 i t.place))
 run_refuses ts i led named t c s end other h is n r e o =
     let here : Here ts i led named t c = record { within = h; is = is; said = n; read = r } in
-    ap (told (length ts) end) (begun ts i led named t c s Refuses here e)
-    ∙ ap (λ b. Err (if b then R.OtherUnit t.place else R.Expected t.place)) (ap (λ b. is_other b c) (first ts i led named t c here) ∙ sym o)
+    ap (told ts end) (begun ts i led named t c s Refuses here e)
+    ∙ ap (λ k. Err (if is_other (length (rest_at ts i t c) == length ts) c then R.OtherUnit t.place else R.Expected (refused_at ts 0 k t.place))) (place_no ts i led named t c here)
+    ∙ ap (λ b. Err (if b then R.OtherUnit t.place else R.Expected (refused_at ts 0 i t.place))) (ap (λ b. is_other b c) (first ts i led named t c here) ∙ sym o)
 
 pub run_deep : (ts : List Token) (i : ℕ) (led named : Bool) (t : Token) (c : Content) (s : State) (end p : Place)
     → i < length ts → t ≡ get_or ts i t → named ≡ (led || begins_arrow (drop (i + 1) ts)) → c ≡ content_of t.sort t.text named → step true s c t.place ≡ TooDeep p
-    → told (length ts) end (run true s (marks led (drop i ts))) ≡ Err (R.TooDeep p)
+    → told ts end (run true s (marks led (drop i ts))) ≡ Err (R.TooDeep p)
 run_deep ts i led named t c s end p h is n r e =
-    ap (told (length ts) end) (begun ts i led named t c s (TooDeep p) (record { within = h; is = is; said = n; read = r }) e)
+    ap (told ts end) (begun ts i led named t c s (TooDeep p) (record { within = h; is = is; said = n; read = r }) e)
 
 -- a refusal of a token that was answered is the one
-fails_so : (b : Bool) (p : Place) (r : Result Module ParseRefusal) → r ≡ Err (if b then R.OtherUnit p else R.Expected p) → Fails (if b then R.OtherUnit p else R.Expected p) r
-fails_so true p r h = h
-fails_so false p r h = h
-
-pub fails_as : (b : Bool) (p : Place) (e : ParseRefusal) (r : Result Module ParseRefusal) → e ≡ (if b then R.OtherUnit p else R.Expected p)
-    → r ≡ Err (if b then R.OtherUnit p else R.Expected p) → Fails e r
-fails_as b p e r h k = subst (λ (x : ParseRefusal). Fails x r) (sym h) (fails_so b p r k)
+pub fails_as : (b : Bool) (p q : Place) (e : ParseRefusal) (r : Result Module ParseRefusal) → IsRefused b p q e
+    → r ≡ Err (if b then R.OtherUnit p else R.Expected q) → Fails e r
+fails_as b p q R.Memory r h k = tt
+fails_as b p q (R.Lex e) r h k = absurd h
+fails_as b p q (R.OtherUnit x) r h k = k ∙ ap (λ c. Err (if c then R.OtherUnit p else R.Expected q)) h.0 ∙ ap (λ y. Err (R.OtherUnit y)) (sym h.1)
+fails_as b p q (R.Expected x) r h k = k ∙ ap (λ c. Err (if c then R.OtherUnit p else R.Expected q)) h.0 ∙ ap (λ y. Err (R.Expected y)) (sym h.1)
+fails_as b p q (R.TooDeep x) r h k = absurd h

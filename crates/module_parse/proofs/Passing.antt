@@ -21,13 +21,13 @@ all_read ts i led s h = ap (λ us. run true s (marks led us)) (drop_all i ts h)
 
 pub ends : (ts : List Token) (end : Place) (i : ℕ) (led : Bool) (s : State) (r : Result Module ParseRefusal)
     → length ts ≤ i → run true s (marks led (drop i ts)) ≡ read true (marks false ts)
-    → MatchResult r (λ m. (n : ℕ) → Gives m (told n end (finish true s))) (λ e. (n : ℕ) → Fails e (told n end (finish true s)))
+    → MatchResult r (λ m. (us : List Token) → Gives m (told us end (finish true s))) (λ e. (us : List Token) → Fails e (told us end (finish true s)))
     → MatchResult r (λ m. Gives m (module_in ts end)) (λ e. Fails e (module_in ts end))
-ends ts end i led s (Ok m) h k f = subst (λ (u : End). Gives m (told (length ts) end u)) (sym (all_read ts i led s h) ∙ k) (f (length ts))
-ends ts end i led s (Err e) h k f = subst (λ (u : End). Fails e (told (length ts) end u)) (sym (all_read ts i led s h) ∙ k) (f (length ts))
+ends ts end i led s (Ok m) h k f = subst (λ (u : End). Gives m (told ts end u)) (sym (all_read ts i led s h) ∙ k) (f ts)
+ends ts end i led s (Err e) h k f = subst (λ (u : End). Fails e (told ts end u)) (sym (all_read ts i led s h) ∙ k) (f ts)
 
-pub fails_before : (ts : List Token) (end : Place) (u : End) (e : ParseRefusal) → u ≡ read true (marks false ts) → Fails e (told (length ts) end u) → Fails e (module_in ts end)
-fails_before ts end u e k f = subst (λ (v : End). Fails e (told (length ts) end v)) k f
+pub fails_before : (ts : List Token) (end : Place) (u : End) (e : ParseRefusal) → u ≡ read true (marks false ts) → Fails e (told ts end u) → Fails e (module_in ts end)
+fails_before ts end u e k f = subst (λ (v : End). Fails e (told ts end v)) k f
 
 pub parsed_by : (front : List Token) (x : Result Tokens LexRefusal) (ts : Tokens) (us : List Token) (r : Result Module ParseRefusal) → x ≡ Ok ts → us ≡ ts.list
     → MatchResult r (λ m. Gives m (module_in us ts.end)) (λ e. Fails e (module_in us ts.end))

@@ -2,6 +2,7 @@
 use Rattle.std.proofs.Common.{◌≡◌, ℕ, List, Ok, Err, true, false, refl, sym, ap, subst, ◌∙◌}
 use Rattle.std.specs.Prelude.{Result, length}
 use Rattle.atl_base.specs.declared.place.Place.{Place}
+use Rattle.atl_tree.specs.declared.token.Token.{Token}
 use Rattle.atl_tree.specs.declared.token.Tokens.{Tokens}
 use Rattle.atl_tree.specs.declared.token.LexRefusal.{LexRefusal}
 use Rattle.atl_tree.specs.declared.module.Module.{Module}
@@ -30,11 +31,11 @@ module_or : Module → Result Module ParseRefusal → Module
 module_or d (Ok m) = m
 module_or d (Err e) = d
 
-told_so : (n : ℕ) (end : Place) (v : End) (m : Module) → told n end v ≡ Ok m → v ≡ Read m
+told_so : (ts : List Token) (end : Place) (v : End) (m : Module) → told ts end v ≡ Ok m → v ≡ Read m
 unfolding module_or
-told_so n end (Read k) m h = ap (λ r. Read (module_or m r)) h
-told_so n end (Expected rest) m h = absurd cc
-told_so n end (Deep p) m h = absurd cc
+told_so ts end (Read k) m h = ap (λ r. Read (module_or m r)) h
+told_so ts end (Expected rest) m h = absurd cc
+told_so ts end (Deep p) m h = absurd cc
 
 -- the text's tokens, and what is read from their marks
 abbrev IsFrom : List ℕ → Module → Type 0
@@ -44,7 +45,7 @@ from_tokens : (text : List ℕ) (m : Module) → module_of_text text ≡ Ok m �
 from_tokens text m h = on (tokens_of text) refl h
   where
     on : (r : Result Tokens LexRefusal) → tokens_of text ≡ r → parsed (front_of text) r ≡ Ok m → IsFrom text m
-    on (Ok l) q k = (l, q, told_so (length l.list) l.end (read true (marks false l.list)) m k)
+    on (Ok l) q k = (l, q, told_so l.list l.end (read true (marks false l.list)) m k)
     on (Err e) q k = absurd cc
 
 -- what is read from a text is canonically written within the limit of depth
@@ -86,7 +87,7 @@ read_back m w fits cs e =
     let ts = marks false tokens.0.list in
     let y = keep_module (module_written m) ts tokens.2 in
     let is_read = accepts true ts (module_tree y.y) (y.y, y.kept true fits, y.same, refl) in
-    (module_tree y.y, ap (parsed (front_of cs)) tokens.1 ∙ ap (told (length tokens.0.list) tokens.0.end) is_read, same_tree m w y.y fine.1 y.away)
+    (module_tree y.y, ap (parsed (front_of cs)) tokens.1 ∙ ap (told tokens.0.list tokens.0.end) is_read, same_tree m w y.y fine.1 y.away)
 
 pub read_again : (text : List ℕ) → IsReadAgain text
 read_again text m h cs e = read_back m (gives_well_formed text m h) (stays_shallow text m h) cs e

@@ -1,11 +1,12 @@
 -- Where no module ends.
-use Rattle.std.proofs.Common.{◌≡◌, ℕ, refl}
+use Rattle.std.proofs.Common.{◌≡◌, List, refl}
 use Rattle.std.specs.Prelude.{true, Err}
 use Rattle.atl_base.specs.declared.place.Place.{Place}
 use Rattle.atl_tree.specs.declared.module.Module.{Module}
 use Rattle.atl_tree.specs.declared.module.Rule.{Rule}
 use Rattle.atl_tree.specs.declared.module.Target.{Target}
 use Rattle.atl_tree.specs.declared.name.Name.{Name}
+use Rattle.atl_tree.specs.declared.token.Token.{Token}
 use Rattle.ocl_parse.specs.declared.refusal.ParseRefusal.TheVariants as R
 use Rattle.module_parse.specs.Machine.{finish}
 use Rattle.module_parse.specs.Reading.{told}
@@ -33,90 +34,90 @@ use Rattle.module_parse.specs.declared.reading.next.Part.{Part}
 use Rattle.module_parse.specs.declared.reading.next.Next.{Next}
 use Rattle.module_parse.specs.declared.reading.next.Next.TheVariants as X
 
-in_header : (h : Header) (n : ℕ) (end : Place) → told n end (finish true (header_of h)) ≡ Err (R.Expected end)
-in_header H.Start k end = refl
-in_header H.ModuleName k end = refl
-in_header (H.ModuleEnd n) k end = refl
-in_header (H.Create n) k end = refl
-in_header (H.Model ms) k end = refl
-in_header (H.ModelColon ms m) k end = refl
-in_header (H.Meta ms m) k end = refl
-in_header (H.ModelEnd ms) k end = refl
+in_header : (h : Header) (ts : List Token) (end : Place) → told ts end (finish true (header_of h)) ≡ Err (R.Expected end)
+in_header H.Start ts end = refl
+in_header H.ModuleName ts end = refl
+in_header (H.ModuleEnd n) ts end = refl
+in_header (H.Create n) ts end = refl
+in_header (H.Model ms) ts end = refl
+in_header (H.ModelColon ms m) ts end = refl
+in_header (H.Meta ms m) ts end = refl
+in_header (H.ModelEnd ms) ts end = refl
 
-in_helper : (h : Helping) (n : ℕ) (end : Place) → told n end (finish true (helping_of h)) ≡ Err (R.Expected end)
-in_helper (L.Begun m) k end = refl
-in_helper (L.Context m) k end = refl
-in_helper (L.DefColon m c) k end = refl
-in_helper (L.HelperName m c) k end = refl
-in_helper (L.Named m c n) k end = refl
-in_helper (L.ResultColon s) k end = refl
+in_helper : (h : Helping) (ts : List Token) (end : Place) → told ts end (finish true (helping_of h)) ≡ Err (R.Expected end)
+in_helper (L.Begun m) ts end = refl
+in_helper (L.Context m) ts end = refl
+in_helper (L.DefColon m c) ts end = refl
+in_helper (L.HelperName m c) ts end = refl
+in_helper (L.Named m c n) ts end = refl
+in_helper (L.ResultColon s) ts end = refl
 
-in_params : (p : Params) (n : ℕ) (end : Place) → told n end (finish true (params_of p)) ≡ Err (R.Expected end)
-in_params (P.First o) k end = refl
-in_params (P.Further o ps) k end = refl
-in_params (P.Colon o ps n) k end = refl
+in_params : (p : Params) (ts : List Token) (end : Place) → told ts end (finish true (params_of p)) ≡ Err (R.Expected end)
+in_params (P.First o) ts end = refl
+in_params (P.Further o ps) ts end = refl
+in_params (P.Colon o ps n) ts end = refl
 
-in_head : (h : Head) (n : ℕ) (end : Place) → told n end (finish true (head_of h)) ≡ Err (R.Expected end)
-in_head (D.Word m ws) k end = refl
-in_head (D.RuleWord m s) k end = refl
-in_head (D.RuleName m f s a) k end = refl
-in_head (D.RuleOpen f d) k end = refl
+in_head : (h : Head) (ts : List Token) (end : Place) → told ts end (finish true (head_of h)) ≡ Err (R.Expected end)
+in_head (D.Word m ws) ts end = refl
+in_head (D.RuleWord m s) ts end = refl
+in_head (D.RuleName m f s a) ts end = refl
+in_head (D.RuleOpen f d) ts end = refl
 
-in_rule : (p : Point) (m : Module) (r : Rule) (n : ℕ) (end : Place) → told n end (finish true (rule_of p m r)) ≡ Err (R.Expected end)
-in_rule T.Parent m r k end = refl
-in_rule T.Brace m r k end = refl
-in_rule T.NoParams m r k end = refl
-in_rule T.CalledBrace m r k end = refl
-in_rule T.From m r k end = refl
-in_rule T.Source m r k end = refl
-in_rule T.SourceEnd m r k end = refl
-in_rule T.Rest m r k end = refl
-in_rule T.Using m r k end = refl
-in_rule T.Local m r k end = refl
-in_rule T.To m r k end = refl
-in_rule T.Target m r k end = refl
-in_rule T.TargetEnd m r k end = refl
-in_rule T.Do m r k end = refl
-in_rule T.RuleEnd m r k end = refl
+in_rule : (p : Point) (m : Module) (r : Rule) (ts : List Token) (end : Place) → told ts end (finish true (rule_of p m r)) ≡ Err (R.Expected end)
+in_rule T.Parent m r ts end = refl
+in_rule T.Brace m r ts end = refl
+in_rule T.NoParams m r ts end = refl
+in_rule T.CalledBrace m r ts end = refl
+in_rule T.From m r ts end = refl
+in_rule T.Source m r ts end = refl
+in_rule T.SourceEnd m r ts end = refl
+in_rule T.Rest m r ts end = refl
+in_rule T.Using m r ts end = refl
+in_rule T.Local m r ts end = refl
+in_rule T.To m r ts end = refl
+in_rule T.Target m r ts end = refl
+in_rule T.TargetEnd m r ts end = refl
+in_rule T.Do m r ts end = refl
+in_rule T.RuleEnd m r ts end = refl
 
-before_colon : (c : Colon) (m : Module) (r : Rule) (x : Name) (n : ℕ) (end : Place) → told n end (finish true (colon_of c m r x)) ≡ Err (R.Expected end)
-before_colon N.Source m r n k end = refl
-before_colon N.Local m r n k end = refl
-before_colon N.Target m r n k end = refl
+before_colon : (c : Colon) (m : Module) (r : Rule) (x : Name) (ts : List Token) (end : Place) → told ts end (finish true (colon_of c m r x)) ≡ Err (R.Expected end)
+before_colon N.Source m r n ts end = refl
+before_colon N.Local m r n ts end = refl
+before_colon N.Target m r n ts end = refl
 
-in_class : (c : Class) (n : ℕ) (end : Place) → told n end (finish true (class_of c)) ≡ Err (R.Expected end)
-in_class (C.Meta c) k end = refl
-in_class (C.Bang c n) k end = refl
-in_class (C.ClassName c n) k end = refl
+in_class : (c : Class) (ts : List Token) (end : Place) → told ts end (finish true (class_of c)) ≡ Err (R.Expected end)
+in_class (C.Meta c) ts end = refl
+in_class (C.Bang c n) ts end = refl
+in_class (C.ClassName c n) ts end = refl
 
-in_target : (p : TargetPoint) (m : Module) (r : Rule) (x : Target) (n : ℕ) (end : Place) → told n end (finish true (target_of p m r x)) ≡ Err (R.Expected end)
-in_target G.Binds m r x k end = refl
-in_target G.FirstBind m r x k end = refl
-in_target G.Bind m r x k end = refl
+in_target : (p : TargetPoint) (m : Module) (r : Rule) (x : Target) (ts : List Token) (end : Place) → told ts end (finish true (target_of p m r x)) ≡ Err (R.Expected end)
+in_target G.Binds m r x ts end = refl
+in_target G.FirstBind m r x ts end = refl
+in_target G.Bind m r x ts end = refl
 
-in_block : (s : Stating) (n : ℕ) (end : Place) → told n end (finish true (stating_of s)) ≡ Err (R.Expected end)
-in_block (S.Statement b) k end = refl
-in_block (S.If b p) k end = refl
-in_block (S.IfBrace b e) k end = refl
-in_block (S.Else b e zs) k end = refl
-in_block (S.ElseBrace b e zs) k end = refl
-in_block (S.For b) k end = refl
-in_block (S.ForName b) k end = refl
-in_block (S.ForIn b n) k end = refl
-in_block (S.ForBrace b n e) k end = refl
+in_block : (s : Stating) (ts : List Token) (end : Place) → told ts end (finish true (stating_of s)) ≡ Err (R.Expected end)
+in_block (S.Statement b) ts end = refl
+in_block (S.If b p) ts end = refl
+in_block (S.IfBrace b e) ts end = refl
+in_block (S.Else b e zs) ts end = refl
+in_block (S.ElseBrace b e zs) ts end = refl
+in_block (S.For b) ts end = refl
+in_block (S.ForName b) ts end = refl
+in_block (S.ForIn b n) ts end = refl
+in_block (S.ForBrace b n e) ts end = refl
 
 -- only behind an item, and in an expression, the end is told otherwise
-pub unfinished : (x : Next) (n : ℕ) (end : Place) → ((m : Module) → x ≡ X.Item m → ⊥) → ((o : ForExpr) (p : Part) → x ≡ X.InExpr o p → ⊥) → told n end (finish true (state_of x)) ≡ Err (R.Expected end)
-unfinished (X.InHeader h) n end a b = in_header h n end
-unfinished (X.Item m) n end a b = absurd (a m refl)
-unfinished (X.InHelper h) n end a b = in_helper h n end
-unfinished (X.InParams p) n end a b = in_params p n end
-unfinished (X.InKind o p) n end a b = refl
-unfinished (X.InExpr o p) n end a b = absurd (b o p refl)
-unfinished (X.InHead h) n end a b = in_head h n end
-unfinished (X.InRule p d) n end a b = in_rule p d.before d.rule n end
-unfinished (X.BeforeColon c d x) n end a b = before_colon c d.before d.rule x n end
-unfinished (X.InClass c) n end a b = in_class c n end
-unfinished (X.InTarget p d x) n end a b = in_target p d.before d.rule x n end
-unfinished (X.Gives d x f) n end a b = refl
-unfinished (X.InBlock s) n end a b = in_block s n end
+pub unfinished : (x : Next) (ts : List Token) (end : Place) → ((m : Module) → x ≡ X.Item m → ⊥) → ((o : ForExpr) (p : Part) → x ≡ X.InExpr o p → ⊥) → told ts end (finish true (state_of x)) ≡ Err (R.Expected end)
+unfinished (X.InHeader h) ts end a b = in_header h ts end
+unfinished (X.Item m) ts end a b = absurd (a m refl)
+unfinished (X.InHelper h) ts end a b = in_helper h ts end
+unfinished (X.InParams p) ts end a b = in_params p ts end
+unfinished (X.InKind o p) ts end a b = refl
+unfinished (X.InExpr o p) ts end a b = absurd (b o p refl)
+unfinished (X.InHead h) ts end a b = in_head h ts end
+unfinished (X.InRule p d) ts end a b = in_rule p d.before d.rule ts end
+unfinished (X.BeforeColon c d x) ts end a b = before_colon c d.before d.rule x ts end
+unfinished (X.InClass c) ts end a b = in_class c ts end
+unfinished (X.InTarget p d x) ts end a b = in_target p d.before d.rule x ts end
+unfinished (X.Gives d x f) ts end a b = refl
+unfinished (X.InBlock s) ts end a b = in_block s ts end

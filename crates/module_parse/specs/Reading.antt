@@ -1,5 +1,5 @@
 -- What the reading of a text gives: its module, or the first refusal.
-use Rattle.std.specs.Prelude.{◌≡◌, ℕ, ◌==◌, ◌&&◌, Bool, true, false, List, [], ◌∷◌, length, Result, Ok, Err, if◌then◌else◌}
+use Rattle.std.specs.Prelude.{◌≡◌, ℕ, ◌-◌, ◌==◌, ◌&&◌, Bool, true, false, List, [], ◌∷◌, length, Result, Ok, Err, if◌then◌else◌}
 use Rattle.atl_base.specs.declared.place.Place.{Place}
 use Rattle.atl_tree.specs.declared.token.Token.{Token}
 use Rattle.atl_tree.specs.declared.token.Tokens.{Tokens}
@@ -10,6 +10,7 @@ use Rattle.atl_tree.specs.Front.{front_of}
 use Rattle.atl_tree.specs.Tokens.{tokens_of}
 use Rattle.ocl_parse.specs.declared.refusal.ParseRefusal.{ParseRefusal}
 use Rattle.ocl_parse.specs.declared.refusal.ParseRefusal.TheVariants as R
+use Rattle.ocl_parse.specs.Variables.{refused_at}
 use Rattle.module_parse.specs.declared.keyword.Keyword.TheVariants as W
 use Rattle.module_parse.specs.Marks.{Content, Word, Mark, marks}
 use Rattle.module_parse.specs.Machine.{End, Read, Expected, Deep, read}
@@ -23,18 +24,21 @@ is_other first (Word W.Uses) = true
 is_other first (Word W.Refining) = true
 is_other first t = false
 
--- the refusal at the first of the rest, of so many marks
-abbrev pub refusal : ℕ → Place → List Mark → ParseRefusal
-refusal n end [] = R.Expected end
-refusal n end (t ∷ rest) = if is_other (length (t ∷ rest) == n) t.content then R.OtherUnit t.place else R.Expected t.place
+-- the refusal of tokens where the module can't go on with the first of the rest: there, or at the keyword that stands before it in
+-- the place of an iterator's variable
+abbrev pub refusal : List Token → Place → List Mark → ParseRefusal
+refusal ts end [] = R.Expected end
+refusal ts end (t ∷ rest) =
+    if is_other (length (t ∷ rest) == length ts) t.content then R.OtherUnit t.place
+    else R.Expected (refused_at ts 0 (length ts - length (t ∷ rest)) t.place)
 
-abbrev pub told : ℕ → Place → End → Result Module ParseRefusal
-told n end (Read m) = Ok m
-told n end (Expected rest) = Err (refusal n end rest)
-told n end (Deep p) = Err (R.TooDeep p)
+abbrev pub told : List Token → Place → End → Result Module ParseRefusal
+told ts end (Read m) = Ok m
+told ts end (Expected rest) = Err (refusal ts end rest)
+told ts end (Deep p) = Err (R.TooDeep p)
 
 abbrev pub module_in : List Token → Place → Result Module ParseRefusal
-module_in ts end = told (length ts) end (read true (marks false ts))
+module_in ts end = told ts end (read true (marks false ts))
 
 abbrev pub is_at : Place → Place → Bool
 is_at p q = p.line == q.line && p.column == q.column
@@ -71,6 +75,14 @@ Fails (R.Lex e) r = r ≡ Err (R.Lex e)
 Fails (R.OtherUnit p) r = r ≡ Err (R.OtherUnit p)
 Fails (R.Expected p) r = r ≡ Err (R.Expected p)
 Fails (R.TooDeep p) r = r ≡ Err (R.TooDeep p)
+
+-- the refusal of a token that stands at p, or of a keyword before it at q; `other` says that it belongs to a unit of another sort
+abbrev pub IsRefused : Bool → Place → Place → ParseRefusal → Type 0
+IsRefused other p q R.Memory = Unit {0}
+IsRefused other p q (R.Lex e) = ⊥
+IsRefused other p q (R.OtherUnit r) = (other ≡ true) × (r ≡ p)
+IsRefused other p q (R.Expected r) = (other ≡ false) × (r ≡ q)
+IsRefused other p q (R.TooDeep r) = ⊥
 
 abbrev pub Gives : Module → Result Module ParseRefusal → Type 0
 Gives m r = r ≡ Ok m

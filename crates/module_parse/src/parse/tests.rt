@@ -457,6 +457,61 @@ fn helpers_are_refused(rt: HostRuntime) -> Result<(), Fail> {
 }
 
 #[test]
+fn a_keyword_is_no_variable(rt: HostRuntime) -> Result<(), Fail> {
+    let cases = [
+        (
+            "helper def: f : Integer = a->select(self | x);",
+            "Expected 2:37",
+        ),
+        (
+            "helper def: f : Integer = a->select(rule | x);",
+            "Expected 2:37",
+        ),
+        (
+            "helper def: f : Integer = a->\"any\"(if | x);",
+            "Expected 2:36",
+        ),
+        (
+            "helper def: f : Integer = a->iterate(true; x",
+            "Expected 2:38",
+        ),
+        (
+            "rule R { from s : A!N (s.e->exists(Set | true)) }",
+            "Expected 2:36",
+        ),
+        // no iterator, no arrow, another mark, no keyword
+        (
+            "helper def: f : Integer = a->foo(self | x);",
+            "Expected 2:39",
+        ),
+        (
+            "helper def: f : Integer = a.select(self | x);",
+            "Expected 2:41",
+        ),
+        (
+            "helper def: f : Integer = a->select(self ; x);",
+            "Expected 2:42",
+        ),
+        (
+            "helper def: f : Integer = a->iterate(self | x);",
+            "Expected 2:43",
+        ),
+        (
+            "helper def: f : Integer = a->select(1 | x);",
+            "Expected 2:39",
+        ),
+        (
+            "helper def: f : Integer = a->select(\"self\" | x",
+            "Expected 2:47",
+        ),
+    ];
+    for (text, expected) in cases {
+        assert_eq!(rt; refused_items(rt.alloc(), text)?.as_str(), expected);
+    }
+    Ok(())
+}
+
+#[test]
 fn the_words_before_rules_are_refused(rt: HostRuntime) -> Result<(), Fail> {
     let cases = [
         ("unique rule R { from s : A!N }", "Expected 2:8"),

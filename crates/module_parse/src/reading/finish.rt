@@ -1,5 +1,6 @@
 // The end of the text.
-ghost use Rattle.std.specs.Prelude.{ℕ, MatchResult, true};
+ghost use Rattle.std.specs.Prelude.{List, MatchResult, true};
+ghost use Rattle.atl_tree.specs.declared.token.Token.{Token};
 ghost use Rattle.ocl_parse.specs.Machine.{last as last_of};
 ghost use Rattle.module_parse.specs.Machine.{finish as finish_of, too_deep as too_deep_of};
 ghost use Rattle.module_parse.specs.Reading.{told, Gives, Fails};
@@ -16,7 +17,7 @@ use std::alloc::Global;
 
 // In an expression no module ends.
 fn finish_expr(alloc: Global, part: Part, end: Place) -> Result<Module, ParseRefusal>
-    ensures { MatchResult result (λ m. (n : ℕ) → Gives m (told n end (too_deep_of (last_of true part.stack part.next)))) (λ e. (n : ℕ) → Fails e (told n end (too_deep_of (last_of true part.stack part.next)))) }
+    ensures { MatchResult result (λ m. (ts : List Token) → Gives m (told ts end (too_deep_of (last_of true part.stack part.next)))) (λ e. (ts : List Token) → Fails e (told ts end (too_deep_of (last_of true part.stack part.next)))) }
 {
     let Part { stack, next } = part;
     let mut stack = stack;
@@ -36,7 +37,7 @@ fn finish_expr(alloc: Global, part: Part, end: Place) -> Result<Module, ParseRef
 
 /// The module, where the text may end there.
 pub fn finish(alloc: Global, next: Next, end: Place) -> Result<Module, ParseRefusal>
-    ensures { MatchResult result (λ m. (n : ℕ) → Gives m (told n end (finish_of true (state_of next)))) (λ e. (n : ℕ) → Fails e (told n end (finish_of true (state_of next)))) }
+    ensures { MatchResult result (λ m. (ts : List Token) → Gives m (told ts end (finish_of true (state_of next)))) (λ e. (ts : List Token) → Fails e (told ts end (finish_of true (state_of next)))) }
 {
     match next {
         Next::Item(before) => Ok(before),

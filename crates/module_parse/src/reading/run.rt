@@ -1,10 +1,10 @@
 // The tokens of a module, one after another.
-ghost use Rattle.std.specs.Prelude.{◌≡◌, ◌+◌, ◌<◌, ◌||◌, MatchResult, drop, length, true, if◌then◌else◌};
+ghost use Rattle.std.specs.Prelude.{◌≡◌, ◌+◌, ◌<◌, ◌≤◌, ◌||◌, MatchResult, drop, length, true};
 ghost use Rattle.atl_tree.specs.Tokens.{begins_arrow as begins_arrow_of};
-ghost use Rattle.ocl_parse.specs.declared.refusal.ParseRefusal.TheVariants as R;
+ghost use Rattle.ocl_parse.specs.Variables.{refused_at};
 ghost use Rattle.module_parse.specs.Marks.{marks};
 ghost use Rattle.module_parse.specs.Machine.{run as run_of};
-ghost use Rattle.module_parse.specs.Reading.{module_in, told, Gives, Fails};
+ghost use Rattle.module_parse.specs.Reading.{module_in, told, Gives, Fails, IsRefused};
 ghost use Rattle.module_parse.specs.Nexts.{state_of};
 
 use crate::reading::content::{is_other, read_content};
@@ -17,6 +17,7 @@ use atl_tree::judge::{begins_arrow, leads_name};
 use atl_tree::module::Module;
 use atl_tree::token::Token;
 use ocl_parse::refusal::ParseRefusal;
+use ocl_parse::variable::refused_place;
 use std::alloc::Global;
 
 // Whether a plain word at the place is read as a name, where `led` says that the token before leads one.
@@ -27,14 +28,19 @@ fn is_named(tokens: &[Token], at: usize, led: bool) -> bool
     led || begins_arrow(&tokens[at + 1..])
 }
 
-// The refusal of a token, where `other` says that it belongs to a unit of another sort.
-fn refusal(other: bool, place: Place) -> ParseRefusal
-    ensures { result ≡ (if other then R.OtherUnit place else R.Expected place) }
+// The refusal where the module can't go on with the i-th token, which stands at this place; `other` says that it belongs to a
+// unit of another sort.
+fn refusal(alloc: Global, other: bool, tokens: &[Token], i: usize, place: Place) -> ParseRefusal
+    requires { i ≤ length tokens.now }
+    ensures { IsRefused other place (refused_at tokens.now 0 i place) result }
 {
     if other {
         return ParseRefusal::OtherUnit(place);
     }
-    ParseRefusal::Expected(place)
+    match refused_place(alloc, tokens, 0, i, place) {
+        Ok(place) => ParseRefusal::Expected(place),
+        Err(_) => ParseRefusal::Memory,
+    }
 }
 
 // What the i-th token leads to, and whether it leads a name.
@@ -49,7 +55,7 @@ fn advance(
     requires { i < length tokens.now }
     ensures { MatchResult result
         (λ r. run_of true (state_of next) (marks led (drop i tokens.now)) ≡ run_of true (state_of r.0) (marks r.1 (drop (i + 1) tokens.now)))
-        (λ e. Fails e (told (length tokens.now) end (run_of true (state_of next) (marks led (drop i tokens.now))))) }
+        (λ e. Fails e (told tokens.now end (run_of true (state_of next) (marks led (drop i tokens.now))))) }
 {
     let token = &tokens[i];
     match read_content(alloc, token, is_named(tokens, i, led)) {
@@ -57,7 +63,7 @@ fn advance(
             let other = is_other(i == 0, &content);
             match step(alloc, next, content, token.place)? {
                 Move::Goes(then) => Ok((then, leads_name(token))),
-                Move::Refuses => Err(refusal(other, token.place)),
+                Move::Refuses => { Err(refusal(alloc, other, tokens, i, token.place)) },
                 Move::TooDeep(place) => Err(ParseRefusal::TooDeep(place)),
             }
         }
