@@ -38,13 +38,10 @@ fn keyword_or(alloc: Global, place: Place, tokens: &[Token]) -> Result<Place, Al
     ensures { IfOk result (λ p. p ≡ keyword_or_in place tokens.now) }
 {
     match tokens {
-        [arrow, name, paren, keyword, behind, ..] => {
+        [arrow, name, paren, keyword, behind, ..]
+            if is_the_mark("->", arrow) && is_the_mark("(", paren) && is_keyword(keyword) => {
             let name = unquoted(alloc, &name.text)?;
-            if is_the_mark("->", arrow)
-                && is_the_mark("(", paren)
-                && is_keyword(keyword)
-                && ends_variable(name.as_str(), behind)
-            {
+            if ends_variable(name.as_str(), behind) {
                 return Ok(keyword.place);
             }
             Ok(place)
