@@ -12,4 +12,5 @@ pub mod module;
 pub mod name;
 mod scan;
 mod state;
+pub mod statements;
 pub mod token;

@@ -2,6 +2,7 @@
 use crate::expr::Expr;
 use crate::kind::KindNode;
 use crate::name::{ClassRef, Name};
+use crate::statements::Statements;
 use sqlite_items::Items;
 
 /// A module: `module name; create targets from sources;`, and then its items in the order of the text.
@@ -72,7 +73,7 @@ pub struct Rule {
     pub locals: Items<LocalVar>,
     pub targets: Items<Target>,
     /// The statements of `do`.
-    pub block: Option<Items<Stat>>,
+    pub block: Option<Statements>,
 }
 
 /// A source, `name : class`.

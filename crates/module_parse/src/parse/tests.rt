@@ -461,6 +461,36 @@ fn a_long_sum_is_read(rt: HostRuntime) -> Result<(), Fail> {
     Ok(())
 }
 
+// A rule of twenty thousand statements in one another, and what stands behind the last.
+fn deep_statements(alloc: Global, end: &str) -> Result<String, Fail> {
+    let mut text = String::from_str(alloc, HEADER)?;
+    text.push_str(" rule R() { do { ")?;
+    let opened = repeated(
+        alloc,
+        text.as_str(),
+        "1; if (a) { for (x in c) { ",
+        10_000,
+        "",
+    )?;
+    let closed = repeated(alloc, opened.as_str(), "} } ", 10_000, end)?;
+    Ok(closed)
+}
+
+#[test]
+fn deep_statements_are_let_go(rt: HostRuntime) -> Result<(), Fail> {
+    let cases = [
+        ("} }", "Read"),
+        ("} )", "Expected 1:310054"),
+        ("else", "Expected 1:310056"),
+        ("", "Expected 1:310052"),
+    ];
+    for (end, expected) in cases {
+        let text = deep_statements(rt.alloc(), end)?;
+        assert_eq!(rt; refused(rt.alloc(), text.as_str())?.as_str(), expected);
+    }
+    Ok(())
+}
+
 #[test]
 fn statements_nest(rt: HostRuntime) -> Result<(), Fail> {
     let mut text = String::from_str(rt.alloc(), HEADER)?;

@@ -13,8 +13,9 @@ use crate::print::token::{push_keyword, push_last, push_name, push_sign};
 use atl_base::text::Text;
 use atl_tree::expr::{BinaryOp, Expr};
 use atl_tree::kind::KindNode;
-use atl_tree::module::{Helper, Item, Param, Rule, RuleSort, Stat};
+use atl_tree::module::{Helper, Item, Param, Rule, RuleSort};
 use atl_tree::name::Name;
+use atl_tree::statements::Statements;
 use ocl_parse::sign::{Ender, Sign};
 use sqlite_items::Items;
 use std::alloc::{AllocError, Global};
@@ -113,7 +114,7 @@ fn push_guard(alloc: Global, out: &mut Text, guard: &Option<Expr>) -> Result<(),
     }
 }
 
-fn push_block(alloc: Global, out: &mut Text, block: &Option<Items<Stat>>) -> Result<(), AllocError>
+fn push_block(alloc: Global, out: &mut Text, block: &Option<Statements>) -> Result<(), AllocError>
     ensures { OnOk result (out.new ≡ out.old ++ spaced (block_marks (block_written block.now))) }
 {
     match block {

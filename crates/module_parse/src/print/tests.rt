@@ -8,6 +8,7 @@ use atl_tree::module::{
     Bind, Helper, Item, ModelDecl, Module, Pattern, Rule, RuleSort, Stat, Target,
 };
 use atl_tree::name::{ClassRef, Name};
+use atl_tree::statements::Statements;
 use ocl_parse::parse::parse_expr;
 use sqlite_items::{Boxed, Items};
 use std::alloc::{AllocError, Global};
@@ -214,7 +215,7 @@ fn a_module_is_printed_line_by_line(rt: HostRuntime) -> Result<(), Fail> {
     Ok(())
 }
 
-fn block_line(alloc: Global, stats: Items<Stat>) -> Result<String, Fail> {
+fn block_line(alloc: Global, stats: Statements) -> Result<String, Fail> {
     let mut rule = node_to_item(alloc)?;
     rule.sort = RuleSort::Unique;
     rule.is_abstract = true;
@@ -247,7 +248,7 @@ fn statements_are_printed(rt: HostRuntime) -> Result<(), Fail> {
         expression(alloc, "s")?,
         Items::new(alloc),
     ))?;
-    let mut stats = Items::new(alloc);
+    let mut stats = Statements::new(alloc);
     stats.push(Stat::If(expression(alloc, "a")?, inner, Some(others)))?;
     stats.push(Stat::If(expression(alloc, "a")?, Items::new(alloc), None))?;
     assert_eq!(rt;
@@ -312,5 +313,29 @@ fn long_chains_are_printed(rt: HostRuntime) -> Result<(), Fail> {
     assert_eq!(rt; sum.checked_sub(400_000), Some(rest));
     let calls = length_of(alloc, long_calls(alloc, 100_000)?)?;
     assert_eq!(rt; calls.checked_sub(800_000), Some(rest));
+    Ok(())
+}
+
+// `if (1) { 1; for (i in 1) { 1; for (i in 1) { .. } } }`
+fn deep_block(alloc: Global, levels: u32) -> Result<Statements, Fail> {
+    let mut stats = Items::new(alloc);
+    for _ in 0..levels {
+        let mut round = Items::new(alloc);
+        round.push(Stat::Eval(number()))?;
+        round.push(Stat::For(name(alloc, "i")?, number(), stats))?;
+        stats = round;
+    }
+    let mut block = Statements::new(alloc);
+    block.push(Stat::If(number(), stats, None))?;
+    Ok(block)
+}
+
+#[test]
+fn deep_statements_are_printed(rt: HostRuntime) -> Result<(), Fail> {
+    let alloc = rt.alloc();
+    let rest = block_line(alloc, deep_block(alloc, 0)?)?.as_str().len();
+    let deep = block_line(alloc, deep_block(alloc, 20_000)?)?;
+    // `1 ; for ( i in 1 ) { } `
+    assert_eq!(rt; deep.as_str().len().checked_sub(460_000), Some(rest));
     Ok(())
 }

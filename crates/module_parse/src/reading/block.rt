@@ -19,6 +19,7 @@ use atl_base::place::Place;
 use atl_tree::expr::Expr;
 use atl_tree::module::Stat;
 use atl_tree::name::Name;
+use atl_tree::statements::Statements;
 use ocl_parse::frame::{Frame, Next as NextInside};
 use ocl_parse::sign::{Ender, Sign};
 use ocl_parse::stack::Stack;
@@ -50,7 +51,10 @@ fn inner_end(block: Block, last: Outer) -> Result<Next, AllocError>
                 outer,
                 stats: before,
             };
-            stat_ends(block, Stat::If(condition, branch, Some(stats)))
+            stat_ends(
+                block,
+                Stat::If(condition, branch.into_items(), Some(stats.into_items())),
+            )
         }
         Outer::Each(before, name, values) => {
             let block = Block {
@@ -58,7 +62,7 @@ fn inner_end(block: Block, last: Outer) -> Result<Next, AllocError>
                 outer,
                 stats: before,
             };
-            stat_ends(block, Stat::For(name, values, stats))
+            stat_ends(block, Stat::For(name, values, stats.into_items()))
         }
     }
 }
@@ -171,14 +175,16 @@ fn no_else(
     alloc: Global,
     block: Block,
     condition: Expr,
-    branch: Items<Stat>,
+    branch: Statements,
     content: Content,
     place: Place,
 ) -> Result<Move, AllocError>
     ensures { IfOk result (λ m. at_stat_of true (blocks_of block) (block.stats ++ (A.If condition branch None ∷ [])) (meant content) place ≡ step_of m) }
 {
     let mut block = block;
-    block.stats.push(Stat::If(condition, branch, None))?;
+    block
+        .stats
+        .push(Stat::If(condition, branch.into_items(), None))?;
     at_stat(alloc, block, content, place)
 }
 
@@ -197,7 +203,7 @@ fn at_else(
     alloc: Global,
     block: Block,
     condition: Expr,
-    branch: Items<Stat>,
+    branch: Statements,
     content: Content,
     place: Place,
 ) -> Result<Move, AllocError>
@@ -224,7 +230,7 @@ fn nested(
     Ok(Next::InBlock(Stating::Statement(Block {
         draft,
         outer,
-        stats: Items::new(alloc),
+        stats: Statements::new(alloc),
     })))
 }
 
@@ -252,7 +258,7 @@ fn else_brace(
     alloc: Global,
     block: Block,
     condition: Expr,
-    branch: Items<Stat>,
+    branch: Statements,
     content: Content,
     place: Place,
 ) -> Result<Move, AllocError>

@@ -2,8 +2,9 @@
 use atl_base::place::Place;
 use atl_tree::expr::Expr;
 use atl_tree::kind::KindNode;
-use atl_tree::module::{ModelDecl, Module, Param, Rule, RuleSort, Stat, Target};
+use atl_tree::module::{ModelDecl, Module, Param, Rule, RuleSort, Target};
 use atl_tree::name::Name;
+use atl_tree::statements::Statements;
 use ocl_parse::frame::Next as NextInside;
 use ocl_parse::stack::Stack;
 use sqlite_items::{Boxed, Items};
@@ -193,11 +194,11 @@ pub enum TargetPoint {
 #[derive(Drop)]
 pub enum Outer {
     /// `if (condition) {`
-    Branch(Items<Stat>, Expr),
+    Branch(Statements, Expr),
     /// `if (condition) { statements } else {`
-    Otherwise(Items<Stat>, Expr, Items<Stat>),
+    Otherwise(Statements, Expr, Statements),
     /// `for (name in values) {`
-    Each(Items<Stat>, Name, Expr),
+    Each(Statements, Name, Expr),
 }
 
 /// In `do`, or in a block within: the blocks that are open, the innermost last, and the statements of the innermost.
@@ -205,7 +206,7 @@ pub enum Outer {
 pub struct Block {
     pub draft: Boxed<Draft>,
     pub outer: Items<Outer>,
-    pub stats: Items<Stat>,
+    pub stats: Statements,
 }
 
 /// How a statement begins, or that there is none.
@@ -230,9 +231,9 @@ pub enum Stating {
     /// `{` behind a condition.
     IfBrace(Block, Expr),
     /// `else`, or whatever may follow a statement.
-    Else(Block, Expr, Items<Stat>),
+    Else(Block, Expr, Statements),
     /// `{` behind `else`.
-    ElseBrace(Block, Expr, Items<Stat>),
+    ElseBrace(Block, Expr, Statements),
     /// `(` behind `for`.
     For(Block),
     ForName(Block),

@@ -5,10 +5,9 @@ ghost use Rattle.module_parse.specs.Nexts.{drafted};
 
 use crate::reading::next::Draft;
 use atl_tree::expr::Expr;
-use atl_tree::module::{
-    Bind, Item, LocalVar, Module, Param, Pattern, Rule, RuleSort, Stat, Target,
-};
+use atl_tree::module::{Bind, Item, LocalVar, Module, Param, Pattern, Rule, RuleSort, Target};
 use atl_tree::name::{ClassRef, Name};
+use atl_tree::statements::Statements;
 use sqlite_items::{Boxed, Items};
 use std::alloc::{AllocError, Global};
 
@@ -116,7 +115,7 @@ pub fn with_target(
 pub fn with_block(
     alloc: Global,
     draft: Boxed<Draft>,
-    stats: Items<Stat>,
+    stats: Statements,
 ) -> Result<Boxed<Draft>, AllocError>
     ensures { IfOk result (λ d. d ≡ drafted draft.before (with_block_of draft.rule stats)) }
 {

@@ -19,6 +19,7 @@ use crate::reading::wanted::{a_brace, a_close, a_colon, a_name};
 use atl_base::place::Place;
 use atl_tree::module::{Item, RuleSort};
 use atl_tree::name::Name;
+use atl_tree::statements::Statements;
 use ocl_parse::sign::{Ender, Sign};
 use ocl_parse::symbol::Symbol;
 use sqlite_items::{Boxed, Items};
@@ -181,7 +182,7 @@ fn do_brace(alloc: Global, draft: Boxed<Draft>, content: Content, place: Place) 
     let block = Block {
         draft,
         outer: Items::new(alloc),
-        stats: Items::new(alloc),
+        stats: Statements::new(alloc),
     };
     a_brace(content, Next::InBlock(Stating::Statement(block)))
 }
