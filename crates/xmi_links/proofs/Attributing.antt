@@ -21,8 +21,8 @@ use Rattle.model_store.specs.declared.parts.Cellv.{Cellv}
 use Rattle.model_store.specs.Contents.{Contents, contains, is_many, refers, slot}
 use Rattle.model_store.specs.Sketches.{with_value}
 use Rattle.model_store.specs.Writes.{value_of_text}
-use Rattle.xmi_read.specs.References.{then_}
-use Rattle.xmi_read.specs.Markup.{words_of}
+use Rattle.xmi_text.specs.Options.{then_}
+use Rattle.xmi_text.specs.Markup.{words_of}
 use Rattle.xmi_models.specs.Outline.{Entry, Part, feature_named}
 use Rattle.xmi_models.specs.Faults.{attribute_feature, attribute_value, bad_text, is_nil, is_text_of, is_value_of, own_class, second}
 use Rattle.xmi_links.specs.References.{value_of}

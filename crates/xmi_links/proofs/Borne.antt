@@ -12,7 +12,7 @@ use Rattle.doc_text.specs.declared.tree.Attribute.{Attribute}
 use Rattle.ecore_meta.specs.Inheritance.{features}
 use Rattle.model_store.specs.Contents.{Contents, class_of, slot}
 use Rattle.model_store.specs.Texts.{plain_text}
-use Rattle.xmi_read.specs.Markup.{is_called}
+use Rattle.xmi_text.specs.Markup.{is_called}
 use Rattle.xmi_models.specs.Outline.{Entry}
 use Rattle.xmi_models.specs.Faults.{objects}
 use Rattle.xmi_links.specs.declared.ids.Bearers.{Bearers}

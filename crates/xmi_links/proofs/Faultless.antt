@@ -17,7 +17,7 @@ use Rattle.model_store.specs.declared.parts.Object.{Object}
 use Rattle.model_store.specs.Contents.{class_of, contains, is_contained_by, is_many, object_at, opposite, refers, slot}
 use Rattle.model_store.specs.Order.{HasNoCycle}
 use Rattle.model_store.specs.Valid.{Fits, HasSlot, IsConcrete, IsModel, Refers}
-use Rattle.xmi_read.proofs.Lists.{in_map, to_map}
+use Rattle.xmi_text.proofs.Lists.{in_map, to_map}
 use Rattle.xmi_models.specs.Outline.{Entry, outline}
 use Rattle.xmi_models.specs.Faults.{element_fault, fault_from, objects}
 use Rattle.xmi_links.specs.References.{attribute_values, child_values, children_from, or_initial, reference_fault}

@@ -16,7 +16,7 @@ use Rattle.model_store.specs.Contents.{AreShaped, container, contains, object_at
 use Rattle.model_store.specs.Valid.{Refers}
 use Rattle.model_store.proofs.CreatedModel.{seen_once}
 use Rattle.model_store.proofs.Thinned.{Contains_cases, Contains_first, Contains_later, Contains_none}
-use Rattle.xmi_read.proofs.Lists.{pairs_cons}
+use Rattle.xmi_text.proofs.Lists.{pairs_cons}
 use Rattle.model_store.proofs.Holding.{contained_not, uncontained}
 use Rattle.xmi_models.specs.Outline.{Entry, Part, Around, Root, Content, Value, Cross, Unknown, Inner, is_object}
 use Rattle.xmi_models.specs.Faults.{objects, fault_from}

@@ -13,7 +13,7 @@ use Rattle.model_store.specs.declared.parts.Cellv.{Cellv}
 use Rattle.model_store.specs.declared.parts.Cellv.TheVariants.{Obj}
 use Rattle.model_store.proofs.Slots.{same_object, same_feature}
 use Rattle.model_store.proofs.Thinned.{Contains_first, Contains_later, Contains_none, Contains_cases}
-use Rattle.xmi_read.proofs.Lists.{pairs_cons}
+use Rattle.xmi_text.proofs.Lists.{pairs_cons}
 use Rattle.xmi_models.specs.Outline.{Entry, Tag, Part, Around, Root, Content, Value, Cross, Unknown, Inner, is_object}
 use Rattle.xmi_models.specs.Faults.{objects}
 use Rattle.xmi_links.specs.References.{children_from}

@@ -16,7 +16,7 @@ use Rattle.model_store.specs.declared.parts.Cellv.TheVariants.{Obj}
 use Rattle.model_store.specs.Contents.{is_many, opposite}
 use Rattle.model_store.proofs.Slots.{same_object, same_feature}
 use Rattle.model_store.proofs.Thinned.{Contains_cases, Contains_first, Contains_later, Contains_none}
-use Rattle.xmi_read.proofs.Lists.{in_map, to_map, pairs_cons, pairs_rest}
+use Rattle.xmi_text.proofs.Lists.{in_map, to_map, pairs_cons, pairs_rest}
 use Rattle.xmi_models.specs.Outline.{Entry}
 use Rattle.xmi_links.specs.References.{Link, both_ways, clashes, has_clash}
 use Rattle.xmi_links.specs.ModelOf.{distinct, is_of, is_to, links, referred}

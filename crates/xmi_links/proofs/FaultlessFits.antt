@@ -21,7 +21,7 @@ use Rattle.model_store.specs.Contents.{contains, is_contained_by, opposite, refe
 use Rattle.model_store.specs.Valid.{Fits, IsOfKind, IsOfType}
 use Rattle.model_store.proofs.Slots.{same_feature}
 use Rattle.model_store.proofs.Thinned.{Contains_cases, Contains_first, Contains_none}
-use Rattle.xmi_read.proofs.Lists.{in_map}
+use Rattle.xmi_text.proofs.Lists.{in_map}
 use Rattle.xmi_models.specs.Outline.{Entry, Part, Around, Root, Content, Value, Cross, Unknown, Inner, class_said, is_sub}
 use Rattle.xmi_models.specs.Faults.{fault_from, is_misplaced, objects, own_class}
 use Rattle.xmi_links.specs.References.{Link, both_ways, attribute_values, child_values, children_from, drafted_slot, or_initial, reference_fault}

@@ -19,9 +19,9 @@ use Rattle.ecore_meta.specs.Valid.{IsMetamodel}
 use Rattle.ecore_meta.proofs.Membership.{Contains-from_flat_map}
 use Rattle.model_store.specs.Contents.{Contents, contains, refers}
 use Rattle.model_store.proofs.Thinned.{Contains_cases, Contains_none}
-use Rattle.xmi_read.specs.Markup.{words_of}
-use Rattle.xmi_read.specs.References.{then_}
-use Rattle.xmi_read.proofs.Lists.{in_filter_map, in_map}
+use Rattle.xmi_text.specs.Markup.{words_of}
+use Rattle.xmi_text.specs.Options.{then_}
+use Rattle.xmi_text.proofs.Lists.{in_filter_map, in_map}
 use Rattle.xmi_models.specs.declared.fault.Kind.{Kind}
 use Rattle.xmi_models.specs.declared.fault.Kind.TheVariants.{BadPath, NoId, TwiceId, BadType, TwoContainers, TwoEnds}
 use Rattle.xmi_models.specs.Outline.{Entry, Part, class_said, feature_named, is_sub}

@@ -20,7 +20,7 @@ use Rattle.model_store.proofs.Thinned.{Contains_first, Contains_later, Contains_
 use Rattle.std.specs.Str.{bytes_eq}
 use Rattle.xmi_models.specs.Outline.{Entry}
 use Rattle.xmi_models.specs.Faults.{objects, fault_from}
-use Rattle.xmi_read.proofs.Lists.{found_passes}
+use Rattle.xmi_text.proofs.Lists.{found_passes}
 use Rattle.xmi_links.specs.References.{bearers, bearers_from, bears, by_bearers, by_path, draft, id_in, names, object_named, path_in}
 use Rattle.xmi_links.proofs.FaultlessOutline.{AreRegular}
 use Rattle.xmi_links.proofs.FaultlessSlots.{IsThere}

@@ -23,8 +23,8 @@ use Rattle.ecore_meta.specs.Inheritance.{features, name_of}
 use Rattle.ecore_meta.specs.Valid.{IsMetamodel, IsKindWithin, class_of}
 use Rattle.model_store.specs.Contents.{contains, refers}
 use Rattle.model_store.proofs.Thinned.{Contains_first, Contains_later}
-use Rattle.xmi_read.specs.Markup.{before_colon, behind_colon, uri_in}
-use Rattle.xmi_read.specs.References.{then_}
+use Rattle.xmi_text.specs.Markup.{before_colon, behind_colon, uri_in}
+use Rattle.xmi_text.specs.Options.{then_}
 use Rattle.xmi_models.specs.Outline.{Entry, Tag, Part, Around, Root, Content, Value, Cross, Unknown, Inner, is_object, objects_in, Where, AtRoot, InAround, InObject, InValue, Below, Sub, Words, texts_of, is_element, class_named, class_behind, class_of_text, type_text, child_class, class_said, feature_named, child_part, part_of, is_around, inside, is_passed, walk, walk_child, walk_all, walk_inside, walk_tag, child_layer, named_layer, outline}
 use Rattle.xmi_names.specs.Names.{is_class_named, class_at}
 use Rattle.xmi_models.specs.Faults.{objects, own_class}

@@ -24,9 +24,9 @@ use Rattle.model_store.specs.Writes.{literal_number, value_of_text}
 use Rattle.model_store.proofs.CreatedModel.{initial_fits, has_default}
 use Rattle.model_store.proofs.Slots.{same_object, same_feature}
 use Rattle.model_store.proofs.Thinned.{Contains_first, Contains_none}
-use Rattle.xmi_read.proofs.Lists.{found_passes}
-use Rattle.xmi_read.specs.References.{then_}
-use Rattle.xmi_read.specs.Markup.{words_of}
+use Rattle.xmi_text.proofs.Lists.{found_passes}
+use Rattle.xmi_text.specs.Options.{then_}
+use Rattle.xmi_text.specs.Markup.{words_of}
 use Rattle.xmi_models.specs.Outline.{Entry, Tag, Part, Around, Root, Content, Value, Cross, Unknown, Inner}
 use Rattle.xmi_models.specs.Faults.{second, is_nil, is_text_of, is_value_of, attribute_feature, attribute_value, bad_text, bad_value, has_attribute, is_second, gives, objects, fault_from, text_in}
 use Rattle.xmi_links.specs.References.{attribute_of, attribute_values, child_values, or_initial, value_of}

@@ -10,7 +10,7 @@ use Rattle.ecore_meta.specs.declared.parts.FeatKind.TheVariants as holds
 use Rattle.ecore_meta.specs.declared.parts.Literal.{Literal}
 use Rattle.ecore_meta.specs.declared.parts.Parts.{Parts}
 use Rattle.ecore_meta.specs.Valid.{IsDigits, IsIntText, IsTextOf, is_reference, number_of}
-use Rattle.xmi_read.specs.Faults.{is_digits, is_int_text}
+use Rattle.xmi_text.specs.Numbers.{is_digits, is_int_text}
 use Rattle.xmi_models.specs.Faults.{is_text_of}
 
 digits_are : (text : List ℕ) → is_digits text ≡ true → IsDigits text

@@ -2,8 +2,8 @@
 use Rattle.std.proofs.Common.{◌≡◌, ◌<◌, ℕ, List, [], get_or, length, map, sym, ap, subst, ◌∙◌, Bor}
 use Rattle.std.proofs.lemmas.List.{get_or-map, length-map}
 use Rattle.atl_base.specs.XmlText.{IsXmlText}
-use Rattle.xmi_read.specs.Markup.{words_of}
-use Rattle.xmi_read.proofs.TextWords.{words_are_texts}
+use Rattle.xmi_text.specs.Markup.{words_of}
+use Rattle.xmi_text.proofs.TextWords.{words_are_texts}
 use Rattle.xmi_models.proofs.FirstValues.{text_at}
 
 pub word_is_text : (text : List ℕ) → IsXmlText text → (ws : List (Bor (List ℕ))) → map (λ w. w.now) ws ≡ words_of text → (i : ℕ) (w : Bor (List ℕ)) → i < length ws → w ≡ get_or ws i w → IsXmlText w.now

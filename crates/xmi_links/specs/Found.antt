@@ -10,7 +10,7 @@ use Rattle.ecore_meta.specs.Inheritance.{features}
 use Rattle.ecore_meta.specs.declared.parts.Parts.{Parts}
 use Rattle.model_store.specs.Contents.{Contents, class_of, is_many, slot}
 use Rattle.model_store.specs.Texts.{plain_text}
-use Rattle.xmi_read.specs.Markup.{is_called}
+use Rattle.xmi_text.specs.Markup.{is_called}
 use Rattle.xmi_models.specs.Outline.{Entry}
 use Rattle.xmi_links.specs.declared.ends.Ends.{Ends}
 use Rattle.xmi_links.specs.declared.ids.Bearers.{Bearers}

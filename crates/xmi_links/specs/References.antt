@@ -17,8 +17,8 @@ use Rattle.model_store.specs.Contents.{Contents, class_of, contains, is_containe
 use Rattle.model_store.specs.Paths.{object_of_path}
 use Rattle.model_store.specs.Texts.{plain_text}
 use Rattle.model_store.specs.Writes.{initial, value_of_text}
-use Rattle.xmi_read.specs.Markup.{is_called, words_of}
-use Rattle.xmi_read.specs.References.{then_}
+use Rattle.xmi_text.specs.Markup.{is_called, words_of}
+use Rattle.xmi_text.specs.Options.{then_}
 use Rattle.xmi_models.specs.Outline.{Entry, Part, Root, Content, Value, is_object, class_said, is_sub}
 use Rattle.xmi_models.specs.declared.fault.Kind.{Kind}
 use Rattle.xmi_models.specs.declared.fault.Kind.TheVariants.{BadPath, NoId, TwiceId, BadType, TwoContainers, TwoEnds}

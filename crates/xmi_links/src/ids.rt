@@ -4,7 +4,7 @@ ghost use Rattle.std.specs.List.{list_any};
 ghost use Rattle.doc_text.specs.Names.{xmi_space};
 ghost use Rattle.model_store.specs.Contents.{Contents, slot};
 ghost use Rattle.model_store.specs.Texts.{plain_text};
-ghost use Rattle.xmi_read.specs.Markup.{is_called as is_called_of};
+ghost use Rattle.xmi_text.specs.Markup.{is_called as is_called_of};
 ghost use Rattle.xmi_models.specs.Faults.{objects};
 ghost use Rattle.xmi_models.specs.Outline.{Entry as SomeEntry, objects_in};
 ghost use Rattle.xmi_models.specs.Entries.{entries_of, entry_of};
@@ -24,7 +24,7 @@ use model_store::texts::push_plain_text;
 use std::alloc::{AllocError, Global};
 use std::collections::HashMap;
 use xmi_models::part::{Entry, is_object};
-use xmi_read::markup::is_called;
+use xmi_text::markup::is_called;
 
 /// An id and an object that bears it.
 #[derive(Drop)]

@@ -28,7 +28,7 @@ use xmi_models::first_fault::element_fault;
 use xmi_models::outline::{File, declarations, outline};
 use xmi_models::part::Entry;
 use xmi_names::vocabulary::Vocabulary;
-use xmi_read::level::Levels;
+use xmi_text::level::Levels;
 
 // The links of a file with these objects.
 fn links_between(

@@ -2,7 +2,7 @@
 ghost use Rattle.std.specs.Prelude.{◌≡◌, ◌++◌, ◌∷◌, [], ℕ, All, List, map, filter_map, IfOk, OnOk};
 ghost use Rattle.atl_base.specs.declared.numbers.ObjId.{ObjId as SomeObjId};
 ghost use Rattle.atl_base.specs.XmlText.{IsXmlText};
-ghost use Rattle.xmi_read.specs.Markup.{words_of};
+ghost use Rattle.xmi_text.specs.Markup.{words_of};
 ghost use Rattle.xmi_models.specs.Outline.{Entry as SomeEntry};
 ghost use Rattle.xmi_models.specs.Entries.{entry_of, part_in};
 ghost use Rattle.xmi_links.specs.References.{token_of, reference_of, reference_feature as reference_feature_in, references_at as references_of};
@@ -17,7 +17,7 @@ use model_store::sketch::Sketch;
 use std::alloc::{AllocError, Global};
 use xmi_models::attribute::attribute_feature;
 use xmi_models::part::{Entry, Part};
-use xmi_read::words::words;
+use xmi_text::words::words;
 
 /// A token of a reference and what it names.
 #[derive(Clone, Copy)]

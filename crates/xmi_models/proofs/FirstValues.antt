@@ -4,7 +4,7 @@ use Rattle.std.specs.Prelude.{Bool, true, false, find, filter_map, Some, None, o
 use Rattle.std.specs.List.{cons_option}
 use Rattle.atl_base.specs.XmlText.{IsXmlText}
 use Rattle.doc_text.specs.declared.tree.Attribute.{Attribute}
-use Rattle.xmi_read.proofs.TextWords.{AreWordTexts}
+use Rattle.xmi_text.proofs.TextWords.{AreWordTexts}
 use Rattle.xmi_models.specs.Faults.{Kind, of_kind, second}
 
 -- ## Words of a text

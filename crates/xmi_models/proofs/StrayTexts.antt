@@ -5,7 +5,7 @@ use Rattle.std.specs.List.{list_any}
 use Rattle.doc_text.specs.declared.tree.Child.{Child, out-Child}
 use Rattle.doc_text.specs.declared.tree.Child.TheOpen as layer
 use Rattle.doc_text.specs.declared.tree.Element.{Element}
-use Rattle.xmi_read.specs.Markup.{is_loud as is_loud_child}
+use Rattle.xmi_text.specs.Markup.{is_loud as is_loud_child}
 use Rattle.xmi_models.specs.Faults.{is_loud}
 use Rattle.xmi_models.specs.Entries.{words_in, texts_in}
 

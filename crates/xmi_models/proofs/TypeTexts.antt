@@ -4,9 +4,9 @@ use Rattle.std.specs.Prelude.{Some}
 use Rattle.std.specs.Option.{option_map_or}
 use Rattle.doc_text.specs.declared.tree.Prefix.{Prefix}
 use Rattle.ecore_meta.specs.declared.parts.Parts.{Parts}
-use Rattle.xmi_read.specs.Markup.{behind_colon}
-use Rattle.xmi_read.specs.Cuts.{place_of}
-use Rattle.xmi_read.proofs.Cuts.{before_some, before_none, behind, rest_cut}
+use Rattle.xmi_text.specs.Markup.{behind_colon}
+use Rattle.xmi_text.specs.Cuts.{place_of}
+use Rattle.xmi_text.proofs.Cuts.{before_some, before_none, behind, rest_cut}
 use Rattle.xmi_models.specs.Outline.{class_of_text, class_behind}
 
 pub text_cut : (meta : Parts) (scope : List Prefix) (text : List ℕ) (n : ℕ) → n ≡ place_of 58 text → n < length text

@@ -13,9 +13,10 @@ use Rattle.ecore_meta.specs.declared.parts.FeatKind.{FeatKind}
 use Rattle.ecore_meta.specs.declared.parts.FeatKind.TheVariants as holds
 use Rattle.ecore_meta.specs.declared.parts.Parts.{Parts}
 use Rattle.model_store.specs.Contents.{contains, is_many, refers}
-use Rattle.xmi_read.specs.Faults.{is_int_text}
-use Rattle.xmi_read.specs.Markup.{is_called, is_blank, words_of}
-use Rattle.xmi_read.specs.References.{names_file, then_}
+use Rattle.xmi_text.specs.Numbers.{is_int_text}
+use Rattle.xmi_text.specs.Markup.{is_called, is_blank, words_of}
+use Rattle.xmi_text.specs.Fragments.{names_file}
+use Rattle.xmi_text.specs.Options.{then_}
 pub use Rattle.xmi_models.specs.declared.fault.Kind.{Kind}
 pub use Rattle.xmi_models.specs.declared.fault.Kind.TheVariants.{NoClass, Abstract, NoFeature, StrayText, BadValue, Href, BadType, Full, BadPath, NoId, TwiceId, TwoContainers, TwoEnds}
 use Rattle.xmi_models.specs.Outline.{Entry, Tag, Part, Around, Root, Content, Value, Cross, Unknown, Inner, is_object, objects_in, feature_named, is_skipped, is_sub, class_said, type_text}

@@ -16,8 +16,8 @@ use Rattle.doc_text.specs.declared.tree.Element.{Element, fold-Element}
 use Rattle.doc_text.specs.declared.tree.Prefix.{Prefix}
 use Rattle.ecore_meta.specs.declared.parts.Parts.{Parts}
 use Rattle.model_store.specs.Contents.{contains, refers}
-use Rattle.xmi_read.specs.Markup.{is_called, before_colon, behind_colon, uri_in}
-use Rattle.xmi_read.specs.References.{then_}
+use Rattle.xmi_text.specs.Markup.{is_called, before_colon, behind_colon, uri_in}
+use Rattle.xmi_text.specs.Options.{then_}
 pub use Rattle.xmi_names.specs.Names.{class_named, is_sub, feature_named, is_skipped, class_said}
 
 -- ## Elements

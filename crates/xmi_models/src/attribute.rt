@@ -10,7 +10,7 @@ use doc_text::tree::Attribute;
 use ecore_meta::metamodel::Metamodel;
 use xmi_names::lookups::{feature_named, is_skipped};
 use xmi_names::vocabulary::Vocabulary;
-use xmi_read::markup::{XSI, is_called};
+use xmi_text::markup::{XSI, is_called};
 
 // What any element may bear and means nothing here.
 fn is_passed(attribute: &Attribute) -> bool

@@ -1,7 +1,7 @@
 // References to other files, children of classes that do not fit, and the limit of objects.
 ghost use Rattle.std.specs.Prelude.{◌≡◌, IfOk, find};
-ghost use Rattle.xmi_read.specs.Markup.{words_of};
-ghost use Rattle.xmi_read.specs.References.{names_file as names_file_of};
+ghost use Rattle.xmi_text.specs.Markup.{words_of};
+ghost use Rattle.xmi_text.specs.Fragments.{names_file as names_file_of};
 ghost use Rattle.xmi_models.specs.Faults.{foreign_in, all_foreign, is_misplaced as is_misplaced_in};
 ghost use Rattle.xmi_models.specs.FoundFaults.{first_value};
 ghost use Rattle.xmi_models.specs.Entries.{part_in};
@@ -14,8 +14,8 @@ use doc_text::tree::Attribute;
 use std::alloc::{AllocError, Global};
 use xmi_names::lookups::{class_said, contains, is_sub, refers};
 use xmi_names::vocabulary::Vocabulary;
-use xmi_read::references::names_file;
-use xmi_read::words::words;
+use xmi_text::references::names_file;
+use xmi_text::words::words;
 
 // The first word of a text that names another file.
 fn foreign_word(alloc: Global, text: &Text) -> Result<Option<Text>, AllocError>

@@ -16,9 +16,9 @@ use doc_text::tree::{Child, Doc, Element};
 use std::alloc::{AllocError, Global};
 use xmi_names::lookups::{class_named, class_said, contains, feature_named, is_skipped, refers};
 use xmi_names::vocabulary::Vocabulary;
-use xmi_read::cut::place_of;
-use xmi_read::level::{Levels, declared_by, levels_in};
-use xmi_read::markup::{XSI, given_in};
+use xmi_text::cut::place_of;
+use xmi_text::level::{Levels, declared_by, levels_in};
+use xmi_text::markup::{XSI, given_in};
 
 // No element of a document that was read stands deeper. Of what does, declarations are looked through one by one.
 const DEEPEST: usize = 200;

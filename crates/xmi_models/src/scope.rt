@@ -1,11 +1,11 @@
 // The namespace declarations in force at an element.
 ghost use Rattle.std.specs.Prelude.{◌≡◌, find, bytes_eq};
 ghost use Rattle.std.specs.Option.{option_copied};
-ghost use Rattle.xmi_read.specs.Markup.{uri_in};
+ghost use Rattle.xmi_text.specs.Markup.{uri_in};
 ghost use Rattle.xmi_models.specs.Scopes.{scope_of};
 
 use doc_text::tree::Prefix;
-use xmi_read::level::{Declared, declared_in};
+use xmi_text::level::{Declared, declared_in};
 
 /// The declarations that are in force at an element: its own, and those around it.
 #[derive(Clone, Copy)]

@@ -7,7 +7,7 @@ ghost use Rattle.doc_text.specs.declared.tree.Child.{out-Child};
 
 use crate::part::{Entry, Part};
 use doc_text::tree::{Child, Element};
-use xmi_read::markup::has_text;
+use xmi_text::markup::has_text;
 
 fn is_element(child: &Child) -> bool
     ensures { result ≡ is_element_in (out-Child child.now) }

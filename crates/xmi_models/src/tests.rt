@@ -10,8 +10,8 @@ use std::alloc::Global;
 use std::test::Fail;
 use xmi_names::vocabulary::Vocabulary;
 use xmi_read::laws::outline_is_within_its_document;
-use xmi_read::level::Levels;
 use xmi_read::read_metamodel::read_metamodel;
+use xmi_text::level::Levels;
 
 mod shown;
 mod small;

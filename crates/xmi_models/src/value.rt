@@ -4,7 +4,7 @@ ghost use Rattle.model_store.specs.Contents.{refers as refers_in, is_many as is_
 ghost use Rattle.atl_base.specs.XmlText.{IsXmlText};
 ghost use Rattle.xmi_models.specs.Faults.{is_text_of as is_text_in, is_value_of as is_value_in, text_in, second, bad_text as bad_text_in, attribute_value as attribute_value_in};
 ghost use Rattle.xmi_models.specs.Entries.{tag_of, part_in};
-ghost use Rattle.xmi_read.specs.Markup.{words_of};
+ghost use Rattle.xmi_text.specs.Markup.{words_of};
 
 use crate::attribute::{attribute_feature, is_nil};
 use crate::part::Part;
@@ -15,8 +15,8 @@ use ecore_meta::parts::FeatKind;
 use std::alloc::{AllocError, Global};
 use xmi_names::lookups::{contains, is_many, refers};
 use xmi_names::vocabulary::Vocabulary;
-use xmi_read::numbers::is_int_text;
-use xmi_read::words::words;
+use xmi_text::numbers::is_int_text;
+use xmi_text::words::words;
 
 /// The text that an element has.
 pub fn element_text(alloc: Global, element: &Element) -> Result<Text, AllocError>

@@ -11,7 +11,7 @@ use Rattle.ecore_meta.specs.declared.parts.Class.{Class}
 use Rattle.ecore_meta.specs.Inheritance.{distinct, features_within, features, supers_of, own_of}
 use Rattle.ecore_meta.specs.Valid.{AllDiffer}
 use Rattle.ecore_meta.proofs.Membership.{head_or}
-use Rattle.xmi_read.proofs.Lists.{pairs_rest}
+use Rattle.xmi_text.proofs.Lists.{pairs_rest}
 
 module _ (name_of : FeatId → List ℕ) (name : List ℕ) where
   abbrev bears : FeatId → Bool

@@ -10,9 +10,9 @@ use Rattle.std.proofs.lemmas.Option.{slice_get_past}
 use Rattle.atl_base.specs.declared.numbers.ClassId.{ClassId}
 use Rattle.ecore_meta.specs.declared.parts.Class.{Class}
 use Rattle.ecore_meta.specs.Inheritance.{supers_of, Conforms, itself, by_super}
-use Rattle.xmi_read.specs.Rows.{inherits, conforms}
-use Rattle.xmi_read.proofs.Lists.{get_mapped, in_map, to_map}
-use Rattle.xmi_read.proofs.Paths.{Simple, one, further, conforms_from}
+use Rattle.xmi_text.specs.Inheriting.{inherits, conforms}
+use Rattle.xmi_text.proofs.Lists.{get_mapped, in_map, to_map}
+use Rattle.xmi_text.proofs.Paths.{Simple, one, further, conforms_from}
 
 abbrev no : ClassId → ℕ
 no c = c.0

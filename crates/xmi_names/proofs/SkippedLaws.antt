@@ -12,8 +12,8 @@ use Rattle.ecore_meta.specs.declared.parts.Skipped.{Skipped}
 use Rattle.ecore_meta.specs.Inheritance.{Conforms}
 use Rattle.ecore_meta.specs.Order.{class_no}
 use Rattle.ecore_meta.specs.Valid.{IsMetamodel}
-use Rattle.xmi_read.specs.Keys.{is_key}
-use Rattle.xmi_read.specs.declared.keys.Key.{Key as CodeKey}
+use Rattle.xmi_text.specs.Keys.{is_key}
+use Rattle.xmi_text.specs.declared.keys.Key.{Key as CodeKey}
 use Rattle.xmi_names.specs.Names.{class_at, is_sub}
 use Rattle.xmi_names.specs.Tables.{has_skipped, names_of, keyed, names_in}
 use Rattle.xmi_names.proofs.Inheriting.{sub_inside, sub_first}

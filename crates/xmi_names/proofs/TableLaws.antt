@@ -14,9 +14,9 @@ use Rattle.ecore_meta.specs.declared.parts.Literal.{Literal}
 use Rattle.ecore_meta.specs.declared.parts.Package.{Package}
 use Rattle.ecore_meta.specs.declared.parts.Parts.{Parts}
 use Rattle.ecore_meta.specs.Valid.{AllDiffer}
-use Rattle.xmi_read.specs.Keys.{is_key, place_of}
-use Rattle.xmi_read.specs.References.{then_}
-use Rattle.xmi_read.proofs.Positions.{position_same, position_map, position_none, position_at, position_any}
+use Rattle.xmi_text.specs.Keys.{is_key, place_of}
+use Rattle.xmi_text.specs.Options.{then_}
+use Rattle.xmi_text.proofs.Positions.{position_same, position_map, position_none, position_at, position_any}
 use Rattle.xmi_names.specs.Names.{is_class_named}
 use Rattle.xmi_names.specs.Tables.{package_key, class_key, literal_key, literal_keys_from, literal_keys}
 use Rattle.xmi_names.proofs.Inheriting.{agree}

@@ -9,8 +9,8 @@ use Rattle.ecore_meta.specs.declared.parts.Class.{Class}
 use Rattle.ecore_meta.specs.declared.parts.Parts.{Parts}
 use Rattle.ecore_meta.specs.Inheritance.{features, name_of}
 use Rattle.ecore_meta.specs.Valid.{class_of}
-use Rattle.xmi_read.specs.References.{then_}
-use Rattle.xmi_read.specs.Rows.{conforms}
+use Rattle.xmi_text.specs.Options.{then_}
+use Rattle.xmi_text.specs.Inheriting.{conforms}
 
 -- ## Classes
 

@@ -12,8 +12,8 @@ use Rattle.ecore_meta.specs.declared.parts.Parts.{Parts}
 use Rattle.ecore_meta.specs.declared.parts.Skipped.{Skipped}
 use Rattle.ecore_meta.specs.Valid.{IsMetamodel}
 use Rattle.ecore_meta.specs.Order.{class_no}
-use Rattle.xmi_read.specs.Keys.{Key, has_place, AreFirsts}
-use Rattle.xmi_read.specs.declared.keys.Key.{Key as CodeKey}
+use Rattle.xmi_text.specs.Keys.{Key, has_place, AreFirsts}
+use Rattle.xmi_text.specs.declared.keys.Key.{Key as CodeKey}
 use Rattle.xmi_names.specs.declared.tables.Tables.{Tables}
 use Rattle.xmi_names.specs.Names.{is_sub}
 

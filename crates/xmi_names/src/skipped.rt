@@ -1,7 +1,7 @@
 // The skipped features that are seen in each class: their names, each under the class's number.
 ghost use Rattle.std.specs.Prelude.{◌≡◌, ◌<◌, ◌++◌, ◌==◌, ◌&&◌, ◌||◌, ℕ, List, [], length, flat_map, IfOk, OnOk, All};
 ghost use Rattle.std.specs.List.{list_any};
-ghost use Rattle.xmi_read.specs.Keys.{is_key, keys_of};
+ghost use Rattle.xmi_text.specs.Keys.{is_key, keys_of};
 ghost use Rattle.ecore_meta.specs.Order.{class_no};
 ghost use Rattle.ecore_meta.specs.Valid.{IsMetamodel};
 ghost use Rattle.xmi_names.specs.Tables.{texts_of, names_in, names_of, keyed, has_skipped};
@@ -11,7 +11,7 @@ use ecore_meta::metamodel::Metamodel;
 use ecore_meta::parts::Skipped;
 use sqlite_items::Items;
 use std::alloc::{AllocError, Global};
-use xmi_read::keys::Key;
+use xmi_text::keys::Key;
 
 // As many empty lists.
 fn empty_rows<'m>(alloc: Global, count: usize) -> Result<Vec<Items<Key<'m>>>, AllocError>

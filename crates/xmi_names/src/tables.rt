@@ -1,6 +1,6 @@
 // Tables of what a metamodel's names lead to: its packages and classes, the features that it skips, and the literals of its enumerations.
 ghost use Rattle.std.specs.Prelude.{◌≡◌, ◌++◌, IfOk, OnOk, map};
-ghost use Rattle.xmi_read.specs.Keys.{keys_of, AreFirsts};
+ghost use Rattle.xmi_text.specs.Keys.{keys_of, AreFirsts};
 ghost use Rattle.xmi_names.specs.Tables.{package_key, class_key, literal_key, literal_keys, AreSkipped, AreTables};
 
 use crate::skipped::seen_keys;
@@ -8,7 +8,7 @@ use ecore_meta::metamodel::Metamodel;
 use ecore_meta::parts::{Class, EnumDef, Literal, Package};
 use std::alloc::{AllocError, Global};
 use std::collections::HashMap;
-use xmi_read::keys::{Key, first_places};
+use xmi_text::keys::{Key, first_places};
 
 /// Where each package stands first by its namespace, each class by its package and name, and each literal by its enumeration and
 /// text; and the skipped features that are seen in each class, by its number and their names.

@@ -10,7 +10,7 @@ use atl_base::numbers::ClassId;
 use ecore_meta::metamodel::Metamodel;
 use std::alloc::{AllocError, Global};
 use std::marker::Model;
-use xmi_read::keys::first_place;
+use xmi_text::keys::first_place;
 
 /// A metamodel, which contracts see as its lists. Looks for names take a time that does not grow with its lists.
 #[derive(Drop)]

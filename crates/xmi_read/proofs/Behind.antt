@@ -4,9 +4,9 @@ use Rattle.std.specs.Prelude.{Bool, true, false, ◌||◌, if◌then◌else◌, 
 use Rattle.doc_text.specs.declared.tree.Doc.{Doc}
 use Rattle.doc_text.specs.declared.tree.Element.{Element}
 use Rattle.doc_text.specs.declared.tree.Prefix.{Prefix}
-use Rattle.xmi_read.specs.Markup.{Site, site, is_typed, sub_elements}
+use Rattle.xmi_text.specs.Markup.{Site, site, is_typed, sub_elements}
 use Rattle.xmi_read.specs.Outline.{Entry, Role, entry, Around, Package, Class, Enum, Data, Literal, SubPackage, Stray, is_named, is_quiet, other_children, class_children, enum_children, classifier, package_children, package_outline, is_package, is_around, around_children, outline, is_package_role, is_class_role, is_feature_role, is_skipped_role, count}
-use Rattle.xmi_read.proofs.Tests.{false-true}
+use Rattle.xmi_text.proofs.Tests.{false-true}
 
 module _ (gives needs : Role → Bool) where
   -- each that needs one has seen one

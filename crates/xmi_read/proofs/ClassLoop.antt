@@ -14,7 +14,7 @@ use Rattle.xmi_read.specs.Parts.{own_of, class_of, classes_from}
 use Rattle.xmi_read.specs.Groups.{own_run, IsRising}
 use Rattle.xmi_read.specs.Tables.{class_row_of, class_rows_of, feature_row_of, feature_rows_of}
 use Rattle.xmi_read.proofs.ClassParts.{made, made_is, own_run_length}
-use Rattle.xmi_read.proofs.Lists.{get_or_map}
+use Rattle.xmi_text.proofs.Lists.{get_or_map}
 use Rattle.xmi_read.proofs.Runs.{features_rise, run_is, rise_past, own_past}
 
 drop_drop : {X : Type 0} (m b : ℕ) (xs : List X) → drop m (drop b xs) ≡ drop (b + m) xs

@@ -3,7 +3,7 @@ use Rattle.std.proofs.Common.{◌≡◌, ℕ, suc, ◌≤◌, List, [], ◌∷�
 use Rattle.std.specs.Prelude.{Bool, true, false, ◌||◌, ◌==◌, filter_map, codes, if◌then◌else◌}
 use Rattle.atl_base.specs.declared.numbers.FeatId.{FeatId}
 use Rattle.ecore_meta.specs.declared.parts.Class.{Class}
-use Rattle.xmi_read.specs.Markup.{flag}
+use Rattle.xmi_text.specs.Markup.{flag}
 use Rattle.xmi_read.specs.Outline.{Entry, name_of}
 use Rattle.xmi_read.specs.References.{class_named}
 use Rattle.xmi_read.specs.Rows.{ClassRow, FeatureRow, feature_rows}

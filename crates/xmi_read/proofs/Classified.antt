@@ -11,13 +11,15 @@ use Rattle.std.proofs.lemmas.Slice.Eq.{bytes_eq-Decides}
 use Rattle.ecore_meta.specs.Valid.{number_of}
 use Rattle.xmi_read.specs.declared.classifiers.Targets.{Targets}
 use Rattle.xmi_read.specs.Outline.{Entry, is_classifier_role, is_package_role, name_of}
-use Rattle.xmi_read.specs.References.{Path, Target, Stand, first_stand, past, target_here, is_holder, is_number, target_from, target, then_}
-use Rattle.xmi_read.specs.Keys.{Key, is_key, place_of, has_place}
-use Rattle.xmi_read.specs.Classifiers.{Classifier, classifier_here, classifiers_from, classifiers_in, is_named, is_numbered, is_of_holder, earlier, holders_from, holders_in, alias_of, Row, row_in, named, numbered, aliased, row_target, row_data, data_of}
+use Rattle.xmi_text.specs.Fragments.{Path}
+use Rattle.xmi_text.specs.Numbers.{is_number}
+use Rattle.xmi_text.specs.Options.{then_, earlier}
+use Rattle.xmi_read.specs.References.{Target, Stand, first_stand, past, target_here, is_holder, target_from, target}
+use Rattle.xmi_text.specs.Keys.{Key, is_key, place_of, has_place}
+use Rattle.xmi_read.specs.Classifiers.{Classifier, classifier_here, classifiers_from, classifiers_in, is_named, is_numbered, is_of_holder, holders_from, holders_in, alias_of, Row, row_in, named, numbered, aliased, row_target, row_data, data_of}
 use Rattle.xmi_read.specs.FileTables.{rows_of, rows_in, AreTargets}
-use Rattle.xmi_read.proofs.Positions.{position_same, position_map, position_none, position_past, position_at, position_either, found_at}
-use Rattle.xmi_read.proofs.Reaching.{same_tests}
-use Rattle.xmi_read.proofs.Tests.{false-true}
+use Rattle.xmi_text.proofs.Positions.{position_same, position_map, position_none, position_past, position_at, position_either, found_at}
+use Rattle.xmi_text.proofs.Tests.{same_tests, false-true}
 
 -- ## Tests either way
 

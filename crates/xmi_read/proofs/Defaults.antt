@@ -8,21 +8,22 @@ use Rattle.std.proofs.lemmas.Slice.Eq.{bytes_eq-Decides}
 use Rattle.doc_text.specs.declared.tree.Attribute.{Attribute}
 use Rattle.doc_text.specs.declared.tree.Element.{Element}
 use Rattle.ecore_meta.specs.Valid.{IsTextOf, IsKindWithin, is_reference}
-use Rattle.xmi_read.specs.Markup.{Site, is_called, given}
+use Rattle.xmi_text.specs.Markup.{Site, is_called, given}
 use Rattle.xmi_read.specs.Outline.{Entry, Attribute as AttributeRole, Reference as ReferenceRole, entry, is_feature_role, count}
 use Rattle.xmi_read.specs.References.{Own, Kept, Skips, feature_named}
 use Rattle.xmi_read.specs.Types.{DataType}
 use Rattle.xmi_read.specs.Rows.{Typed, ByData, ByClass, Foreign, Untyped, typed}
 use Rattle.xmi_read.specs.Parts.{kept, opposite_of, kind_of, default_of}
-use Rattle.xmi_read.specs.Faults.{Fault, first_fault, BadNumber, is_upper, is_text_of, is_bad_default, is_bad_number, number_fault}
+use Rattle.xmi_text.specs.Numbers.{is_upper}
+use Rattle.xmi_read.specs.Faults.{Fault, first_fault, BadNumber, is_text_of, is_bad_default, is_bad_number, number_fault}
 use Rattle.xmi_read.proofs.DataTypes.{AttributeFits, ReferenceFits, attribute_fits, reference_fits, text_is}
-use Rattle.xmi_read.proofs.Lists.{found_passes, found_fails}
+use Rattle.xmi_text.proofs.Lists.{found_passes, found_fails}
 use Rattle.xmi_read.proofs.Roles.{features}
 use Rattle.xmi_read.proofs.Sound.{Fine, fine, some-none}
 use Rattle.xmi_read.proofs.Splits.{all_rows, length-rows, count-here}
 use Rattle.xmi_read.proofs.Tables.{tables, feature_row, feature_made}
 use Rattle.xmi_read.proofs.Targets.{feature_named_at}
-use Rattle.xmi_read.proofs.Tests.{true-false, false-true}
+use Rattle.xmi_text.proofs.Tests.{true-false, false-true}
 
 module _ (file : List Entry) where
   -- ## Opposites are features

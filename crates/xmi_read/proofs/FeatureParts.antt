@@ -4,11 +4,12 @@ use Rattle.std.specs.Prelude.{Bool, false, ◌&&◌, Option, codes}
 use Rattle.std.specs.Option.{option_map_or}
 use Rattle.ecore_meta.specs.declared.parts.FeatKind.{FeatKind}
 use Rattle.ecore_meta.specs.declared.parts.Feature.{Feature}
-use Rattle.xmi_read.specs.Markup.{given, flag}
+use Rattle.xmi_text.specs.Markup.{given, flag}
 use Rattle.xmi_read.specs.Outline.{Entry, name_of}
 use Rattle.xmi_read.specs.Rows.{FeatureRow}
 use Rattle.xmi_read.specs.Parts.{class_no, kind_of, is_unique, default_of, feature_of}
-use Rattle.xmi_read.specs.Faults.{is_many_upper, is_attribute_role}
+use Rattle.xmi_text.specs.Numbers.{is_many_upper}
+use Rattle.xmi_read.specs.Faults.{is_attribute_role}
 
 abbrev pub made : ℕ → List ℕ → FeatKind → Bool → Bool → Bool → Option (List ℕ) → Feature
 made owner name kind many unique is_id default = record { name = name; owner = class_no owner; kind = kind; many = many; unique = unique; is_id = is_id; default = default }

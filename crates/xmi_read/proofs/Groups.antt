@@ -9,7 +9,7 @@ use Rattle.xmi_read.specs.Outline.{Entry, is_package_role, is_enum_role, name_of
 use Rattle.xmi_read.specs.Types.{is_literal_role, literals_from, literals_of}
 use Rattle.xmi_read.specs.Parts.{package_of, literal_of, enums_from}
 use Rattle.xmi_read.specs.Groups.{package_at, packages_in, literal_at, literals_behind, enums_in}
-use Rattle.xmi_read.proofs.Tests.{true-false}
+use Rattle.xmi_text.proofs.Tests.{true-false}
 
 -- behind the next enumeration there are none
 none_past : (n m : ℕ) (es : List Entry) → suc n < m → literals_from n m es ≡ []

@@ -4,14 +4,14 @@ use Rattle.std.specs.Prelude.{Bool, true, false, cond, ◌==◌, ◌&&◌, ◌||
 use Rattle.std.specs.List.{list_any}
 use Rattle.xmi_read.specs.declared.literals.Literals.{Literals}
 use Rattle.xmi_read.specs.Outline.{Entry, Role, Literal, is_enum_role}
-use Rattle.xmi_read.specs.References.{then_}
+use Rattle.xmi_text.specs.Options.{then_}
 use Rattle.xmi_read.specs.Types.{is_literal_role, literal_text, literals_from, literals_of, first_text}
-use Rattle.xmi_read.specs.Keys.{Key, is_key, has_place}
+use Rattle.xmi_text.specs.Keys.{Key, is_key, has_place}
 use Rattle.xmi_read.specs.Literals.{literal_keys_from, literal_keys, key_text, enum_key}
 use Rattle.xmi_read.specs.FileTables.{AreLiterals}
 use Rattle.xmi_read.proofs.OwnRows.{same_suc, zero_suc}
-use Rattle.xmi_read.proofs.Positions.{position_map, position_any, found_at}
-use Rattle.xmi_read.proofs.Tests.{true-false, false-true}
+use Rattle.xmi_text.proofs.Positions.{position_map, position_any, found_at}
+use Rattle.xmi_text.proofs.Tests.{true-false, false-true}
 
 no_literal : (r : Role) → is_enum_role r ≡ true → is_literal_role r ≡ false
 no_literal Literal h = absurd (false-true h)

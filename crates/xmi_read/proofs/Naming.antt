@@ -7,7 +7,7 @@ use Rattle.std.proofs.lemmas.List.Elements.{All-nil, All-cons, All-map}
 use Rattle.std.proofs.lemmas.Slice.Eq.{bytes_eq-Decides}
 use Rattle.ecore_meta.specs.Names.{is_plain_name, IsName, IsPrefix, IsUri, HasNoDot}
 use Rattle.ecore_meta.specs.Valid.{AreNames}
-use Rattle.xmi_read.specs.Markup.{given, has_text, is_bad_flag}
+use Rattle.xmi_text.specs.Markup.{given, has_text, is_bad_flag}
 use Rattle.xmi_read.specs.Outline.{Entry, Package, Class, Enum, Literal, Attribute, Reference, entry, is_package_role, is_class_role, is_enum_role, is_feature_role, name_of}
 use Rattle.xmi_read.specs.Types.{is_literal_role, literals_from}
 use Rattle.xmi_read.specs.Parts.{literal_of}
@@ -16,7 +16,7 @@ use Rattle.xmi_read.proofs.Roles.{packages, classes, enums, literals, features}
 use Rattle.xmi_read.proofs.Sound.{Fine, fine}
 use Rattle.xmi_read.proofs.Splits.{all_rows}
 use Rattle.xmi_read.proofs.Tables.{tables, package_made, class_made, feature_made, enum_made}
-use Rattle.xmi_read.proofs.Tests.{true-false}
+use Rattle.xmi_text.proofs.Tests.{true-false}
 
 pub differ : (xs ys : List ℕ) → bytes_eq xs ys ≡ false → xs ≢ ys
 differ xs ys h e = true-false (sym ((bytes_eq-Decides xs ys).1 e) ∙ h)

@@ -9,7 +9,7 @@ use Rattle.ecore_meta.specs.declared.parts.Feature.{Feature}
 use Rattle.ecore_meta.specs.declared.parts.FeatKind.{FeatKind}
 use Rattle.ecore_meta.specs.declared.parts.FeatKind.TheVariants.{Str, Int, Truth, Enum, Opaque, Refer}
 use Rattle.ecore_meta.specs.Valid.{is_reference, opposite_of, AreOpposite}
-use Rattle.xmi_read.specs.Markup.{Site, given}
+use Rattle.xmi_text.specs.Markup.{Site, given}
 use Rattle.xmi_read.specs.Outline.{Entry, Attribute, Reference, entry, is_feature_role, count, name_of}
 use Rattle.xmi_read.specs.References.{Own, Kept, Skips, feature_named}
 use Rattle.xmi_read.specs.Rows.{FeatureRow, Typed, ByData, ByClass, Foreign, Untyped, typed, feature_rows}
@@ -22,7 +22,7 @@ use Rattle.xmi_read.proofs.Splits.{rows, row_at, row_here}
 use Rattle.xmi_read.proofs.Tables.{tables, feature_row, feature_made, the_features}
 use Rattle.xmi_read.proofs.Targets.{KeptAt, feature_named_at}
 use Rattle.xmi_read.proofs.TypesKnown.{type_known}
-use Rattle.xmi_read.proofs.Tests.{true-false, false-true}
+use Rattle.xmi_text.proofs.Tests.{true-false, false-true}
 
 no_opposite : (k : FeatKind) → is_reference k ≡ false → opposite_of k ≡ None
 no_opposite (Refer class contains opposite) h = absurd (true-false h)

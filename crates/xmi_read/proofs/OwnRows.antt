@@ -6,12 +6,13 @@ use Rattle.std.proofs.lemmas.Bool.{cases_eq, eq-eqb, ne_eqb}
 use Rattle.std.proofs.lemmas.List.Folds.{find-append}
 use Rattle.xmi_read.specs.declared.owns.Owns.{Owns}
 use Rattle.xmi_read.specs.Outline.{Entry, is_class_role, is_feature_role, name_of}
-use Rattle.xmi_read.specs.References.{Own, own_here, own_from, own_feature, then_}
+use Rattle.xmi_text.specs.Options.{then_}
+use Rattle.xmi_read.specs.References.{Own, own_here, own_from, own_feature}
 use Rattle.xmi_read.specs.Targets.{own_of}
-use Rattle.xmi_read.specs.Keys.{Key, is_key, has_place}
+use Rattle.xmi_text.specs.Keys.{Key, is_key, has_place}
 use Rattle.xmi_read.specs.Owns.{OwnRow, row_key, row_own, owns_from, owns_of}
 use Rattle.xmi_read.specs.FileTables.{AreOwns}
-use Rattle.xmi_read.proofs.Positions.{position_map, found_at}
+use Rattle.xmi_text.proofs.Positions.{position_map, found_at}
 
 pub same_suc : (k n : ℕ) → (suc k == suc n) ≡ (k == n)
 same_suc k n = ⊎_elim

@@ -15,7 +15,7 @@ use Rattle.xmi_read.specs.Outline.{Entry, Role, is_package_role, is_class_role, 
 use Rattle.xmi_read.specs.Rows.{FeatureRow, feature_rows}
 use Rattle.xmi_read.specs.Parts.{class_no, feature_no, feature_of, own_of as own_from}
 use Rattle.xmi_read.proofs.Behind.{Behind, is_member_role, some_before}
-use Rattle.xmi_read.proofs.Lists.{get_of_map, pairs_cons}
+use Rattle.xmi_text.proofs.Lists.{get_of_map, pairs_cons}
 use Rattle.xmi_read.proofs.Splits.{row_at, all_rows, length-rows, count-append}
 use Rattle.xmi_read.proofs.Tables.{tables, package_made, class_made, feature_row, feature_made, skipped_made, the_features, map-rows}
 

@@ -14,12 +14,13 @@ use Rattle.xmi_read.specs.DataTypes.{typed_of}
 use Rattle.xmi_read.specs.Tables.{feature_row_of, feature_rows_of}
 use Rattle.xmi_read.specs.Outline.{Entry, Role, Attribute as AttributeRole, Stray, is_class_role, is_feature_role, count}
 use Rattle.xmi_read.specs.Rows.{Typed, typed, super_numbers, feature_rows}
-use Rattle.xmi_read.specs.Faults.{Fault, or_else, is_attribute_role, is_bad_default, is_bad_number, is_upper, number_fault, last_feature, fault_at, fault_from, BadNumber}
-use Rattle.xmi_read.proofs.Lists.{get_of_map}
+use Rattle.xmi_text.specs.Numbers.{is_upper}
+use Rattle.xmi_read.specs.Faults.{Fault, or_else, is_attribute_role, is_bad_default, is_bad_number, number_fault, last_feature, fault_at, fault_from, BadNumber}
+use Rattle.xmi_text.proofs.Lists.{get_of_map}
 use Rattle.xmi_read.proofs.Splits.{count-here, row_here, rows as rows_of}
 use Rattle.xmi_read.proofs.Supers.{super_count}
 use Rattle.xmi_read.proofs.Tables.{count-next, feature_row, the_features, class_count}
-use Rattle.xmi_read.proofs.Tests.{false-true}
+use Rattle.xmi_text.proofs.Tests.{false-true}
 
 -- ## The tables
 

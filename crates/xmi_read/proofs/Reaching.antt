@@ -2,25 +2,18 @@
 -- too, nothing is left.
 use Rattle.std.proofs.Common.{◌≡◌, ℕ, zero, suc, ◌+◌, ◌<◌, ◌≤◌, ◌⊎◌, inl, inr, List, [], ◌∷◌, ◌++◌, length, get_or, refl, sym, ap, ◌∙◌, subst, ⊎_elim, eqb, arith}
 use Rattle.std.specs.Prelude.{Bool, true, false, ◌==◌, ◌||◌, Contains, if◌then◌else◌}
-use Rattle.std.specs.List.{list_any}
+use Rattle.std.specs.List.{list_any, IsDistinct}
 use Rattle.std.proofs.lemmas.Bool.{eq-eqb, eqb-true, or_left, or_right, or_cases, cases_lt}
 use Rattle.std.proofs.lemmas.List.{get_or_append_left, get_or_default, append-nil, append_assoc}
 use Rattle.std.proofs.lemmas.List.Folds.{list_any_at, list_any-append, Any-from_list_any}
-use Rattle.std.specs.List.{IsDistinct}
 use Rattle.std.proofs.lemmas.Map.Steps.{length-le_from_distinct_below}
 use Rattle.std.proofs.lemmas.Map.Keys.{IsDistinct-push, IsDistinct-from_apart}
 use Rattle.std.proofs.lemmas.Cmp.{nat_eq_equiv}
 use Rattle.indexmap.specs.IndexSet.{insert_key, insert_all}
-use Rattle.xmi_read.specs.Rows.{inherits, conforms}
+use Rattle.xmi_text.specs.Inheriting.{inherits, conforms}
 use Rattle.xmi_read.specs.Walks.{AreWithin, LeadWithin}
-use Rattle.xmi_read.proofs.Paths.{Simple, one, further, passes, conforms_from}
-
--- ## Two tests that pass together
-
-pub same_tests : (a b : Bool) → (a ≡ true → b ≡ true) → (b ≡ true → a ≡ true) → a ≡ b
-same_tests true b f g = sym (f refl)
-same_tests false true f g = g refl
-same_tests false false f g = refl
+use Rattle.xmi_text.proofs.Paths.{Simple, one, further, passes, conforms_from}
+use Rattle.xmi_text.proofs.Tests.{same_tests}
 
 pub contains : (xs : List ℕ) (x : ℕ) → list_any (eqb x) xs ≡ true → Contains xs x
 contains xs x h =

@@ -1,12 +1,12 @@
 -- Elements by their roles.
 use Rattle.std.proofs.Common.{◌≡◌}
 use Rattle.std.specs.Prelude.{true}
-use Rattle.xmi_read.specs.Markup.{Site}
+use Rattle.xmi_text.specs.Markup.{Site}
 use Rattle.xmi_read.specs.Outline.{Entry, Role, Package, Class, Enum, Literal, Attribute, Reference, TypeOf, entry, is_package_role, is_class_role, is_enum_role, is_feature_role}
 use Rattle.xmi_read.specs.Types.{is_literal_role}
 use Rattle.xmi_read.specs.Rows.{is_type_role}
 use Rattle.xmi_read.specs.Faults.{is_reference_role}
-use Rattle.xmi_read.proofs.Tests.{false-true}
+use Rattle.xmi_text.proofs.Tests.{false-true}
 
 module _ (P : Entry → Type 0) where
   pub packages : ((s : Site) → P (entry Package s)) → (e : Entry) → is_package_role e.role ≡ true → P e

@@ -16,7 +16,7 @@ use Rattle.xmi_read.specs.declared.rows.FeatureRow.{FeatureRow as CodeFeatureRow
 use Rattle.xmi_read.specs.Tables.{class_row_of, class_rows_of, feature_row_of, feature_rows_of}
 use Rattle.xmi_read.specs.Texts.{AreTexts, HasTextDefault}
 use Rattle.xmi_read.proofs.DataTypes.{AttributeFits, ReferenceFits, attribute_fits, reference_fits}
-use Rattle.xmi_read.proofs.Lists.{get_or_map}
+use Rattle.xmi_text.proofs.Lists.{get_or_map}
 use Rattle.xmi_read.proofs.Roles.{features}
 use Rattle.xmi_read.proofs.Splits.{all_rows, length-rows}
 use Rattle.xmi_read.proofs.Tables.{tables, class_row, feature_row, the_classes, the_features, class_count, enum_count}

@@ -6,7 +6,7 @@ use Rattle.xmi_read.specs.Outline.{Entry, is_class_role, is_feature_role}
 use Rattle.xmi_read.specs.Rows.{FeatureRow, feature_rows_from, feature_rows, typed}
 use Rattle.xmi_read.specs.Parts.{feature_no, own_of}
 use Rattle.xmi_read.specs.Groups.{own_run, IsRising}
-use Rattle.xmi_read.proofs.Tests.{true-false}
+use Rattle.xmi_text.proofs.Tests.{true-false}
 
 pub rising_from : (j k : ℕ) (rows : List FeatureRow) → j ≤ k → IsRising k rows → IsRising j rows
 rising_from j k [] l h = tt

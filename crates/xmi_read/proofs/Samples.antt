@@ -4,7 +4,7 @@ use Rattle.std.specs.Prelude.{codes, Option, Some, None, map, true, false}
 use Rattle.atl_base.specs.declared.place.Place.{Place}
 use Rattle.doc_text.specs.declared.tree.Attribute.{Attribute}
 use Rattle.ecore_meta.specs.declared.parts.FeatKind.TheVariants.{Str, Refer}
-use Rattle.xmi_read.specs.Markup.{site, ecore_space}
+use Rattle.xmi_text.specs.Markup.{site, ecore_space}
 use Rattle.xmi_read.specs.Outline.{Entry, Role, entry, Package, Class, Enum as EnumRole, Literal, Attribute as AttributeRole, Reference, SkippedReference, TypeOf, SubPackage}
 use Rattle.xmi_read.specs.Types.{ecore_types}
 use Rattle.xmi_read.specs.Parts.{class_no, feature_no, parts_of}

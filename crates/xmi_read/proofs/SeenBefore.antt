@@ -5,16 +5,16 @@ use Rattle.std.specs.List.{list_any}
 use Rattle.std.proofs.lemmas.Bool.{lt-ltb}
 use Rattle.std.proofs.lemmas.List.Folds.{list_any-append}
 use Rattle.xmi_read.specs.declared.earlier_names.Seen.{Seen}
-use Rattle.xmi_read.specs.Markup.{Site}
+use Rattle.xmi_text.specs.Markup.{Site}
 use Rattle.xmi_read.specs.Outline.{Entry, entry, Role, Package, Class, Enum, Data, Literal, is_package_role, is_class_role, is_classifier_role, is_enum_role, count, name_of}
 use Rattle.xmi_read.specs.Types.{is_literal_role, literal_text, literals_from, literals_of}
 use Rattle.xmi_read.specs.Rows.{twice_seen}
 use Rattle.xmi_read.specs.Faults.{Fault, TwiceName, when, or_else, uri_of, prefix_of, is_same_package, is_same_classifier, is_same_literal, twice_fault}
-use Rattle.xmi_read.specs.Keys.{is_key}
+use Rattle.xmi_text.specs.Keys.{is_key}
 use Rattle.xmi_read.specs.Seen.{has_key, AreSeen, repeats}
 use Rattle.xmi_read.proofs.OwnRows.{same_suc, zero_suc}
 use Rattle.xmi_read.proofs.Roles.{classes}
-use Rattle.xmi_read.proofs.Tests.{false-true, true-false}
+use Rattle.xmi_text.proofs.Tests.{false-true, true-false}
 
 pub or_cond : (b x : Bool) → cond b true x ≡ (b || x)
 or_cond true x = refl

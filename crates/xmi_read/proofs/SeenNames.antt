@@ -6,7 +6,8 @@ use Rattle.std.proofs.Math.Dec.{eqb-suc-zero}
 use Rattle.std.proofs.lemmas.List.{map_push}
 use Rattle.std.proofs.lemmas.List.Folds.{list_any-append}
 use Rattle.xmi_read.specs.Outline.{name_of}
-use Rattle.xmi_read.specs.Rows.{FeatureRow, conforms, is_unnamed, twice_from}
+use Rattle.xmi_text.specs.Inheriting.{conforms}
+use Rattle.xmi_read.specs.Rows.{FeatureRow, is_unnamed, twice_from}
 
 or_swap : (a b : Bool) → (a || (b || false)) ≡ (b || a)
 or_swap true true = refl

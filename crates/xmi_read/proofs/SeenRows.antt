@@ -7,13 +7,14 @@ use Rattle.std.specs.Option.{option_or, option_copied}
 use Rattle.std.proofs.lemmas.Bool.{eqb-true, eq-eqb, ne_eqb, leb-true, le-leb, lt-leb, cases_lt, or_cases}
 use Rattle.std.proofs.lemmas.List.{drop_more, get_or-drop, get_or_default, length-drop}
 use Rattle.xmi_read.specs.Outline.{name_of}
-use Rattle.xmi_read.specs.Rows.{FeatureRow, conforms, is_unnamed, twice_from}
+use Rattle.xmi_text.specs.Inheriting.{conforms}
+use Rattle.xmi_read.specs.Rows.{FeatureRow, is_unnamed, twice_from}
 use Rattle.xmi_read.specs.Groups.{IsRising, past_run}
 use Rattle.xmi_read.proofs.Reaching.{contains}
 use Rattle.xmi_read.specs.declared.rows.FeatureRow.{FeatureRow as CodeFeatureRow}
 use Rattle.xmi_read.specs.Tables.{feature_row_of, feature_rows_of}
 use Rattle.xmi_read.proofs.SeenNames.{passed_over, step_again, step_new}
-use Rattle.xmi_read.proofs.Tests.{true-false, false-true}
+use Rattle.xmi_text.proofs.Tests.{true-false, false-true}
 
 -- the features of this class and of later ones
 abbrev pub from : ℕ → List FeatureRow → List FeatureRow

@@ -7,7 +7,7 @@ use Rattle.doc_text.specs.declared.tree.Child.TheOpen as layer
 use Rattle.doc_text.specs.declared.tree.Doc.{Doc}
 use Rattle.doc_text.specs.declared.tree.Element.{Element}
 use Rattle.doc_text.specs.declared.tree.Prefix.{Prefix}
-use Rattle.xmi_read.specs.Markup.{Site, site, given, is_typed, elements_in, sub_elements}
+use Rattle.xmi_text.specs.Markup.{Site, site, given, is_typed, elements_in, sub_elements}
 use Rattle.xmi_read.specs.Outline.{Entry, Role, entry, Literal, Attribute, Reference, SkippedAttribute, SkippedReference, Super, TypeOf, SkippedType, SubPackage, Stray, is_named, is_quiet, is_skipped, has_type, other_children, feature_children, feature_outline, feature, class_children, enum_children, classifier, package_children, package_outline, is_package, is_around, around_children, outline}
 use Rattle.doc_text.specs.Sizes.{total, child_layer, size_of_element, size_of_child, size}
 use Rattle.doc_text.proofs.Sizes.{element_is, child_is}

@@ -12,7 +12,7 @@ use Rattle.xmi_read.specs.Types.{literals_of}
 use Rattle.xmi_read.specs.Rows.{ClassRow, class_rows_from, class_rows, super_words, supers_behind, FeatureRow, feature_rows_from, feature_rows, typed}
 use Rattle.xmi_read.specs.Parts.{class_no, package_of, class_of, classes_from, feature_of, literal_of, enums_from, skipped_from, parts_of}
 use Rattle.xmi_read.proofs.Splits.{rows, count-push, count-push_other, length-rows}
-use Rattle.xmi_read.proofs.Tests.{false-true}
+use Rattle.xmi_text.proofs.Tests.{false-true}
 
 pub count-next : (of : Role → Bool) (b : List Entry) (e : Entry) → count of (b ++ (e ∷ [])) ≡ (if of e.role then suc (count of b) else count of b)
 count-next of b e = by (of e.role) refl

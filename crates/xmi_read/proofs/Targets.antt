@@ -4,8 +4,10 @@ use Rattle.std.specs.Prelude.{Bool, true, false, ◌==◌, ◌&&◌, bytes_eq, O
 use Rattle.std.specs.Option.{option_or}
 use Rattle.std.proofs.lemmas.Option.{none-some, same_Some}
 use Rattle.xmi_read.specs.Outline.{Entry, is_class_role, is_enum_role, is_feature_role, is_skipped_role, count, name_of}
-use Rattle.xmi_read.specs.References.{Path, Target, OfClass, OfEnum, OfData, Stand, first_stand, past, target_here, is_named_by, target_from, target, then_, local_target, path_of, parts_of, fragment, class_of, class_named, Own, Kept, Skips, own_from, own_feature, own_named, feature_path_of, feature_named, names_file}
-use Rattle.xmi_read.proofs.Tests.{false-true}
+use Rattle.xmi_text.specs.Fragments.{Path, path_of, parts_of, fragment, feature_path_of, names_file}
+use Rattle.xmi_text.specs.Options.{then_}
+use Rattle.xmi_read.specs.References.{Target, OfClass, OfEnum, OfData, Stand, first_stand, past, target_here, is_named_by, target_from, target, local_target, class_of, class_named, Own, Kept, Skips, own_from, own_feature, own_named, feature_named}
+use Rattle.xmi_text.proofs.Tests.{false-true}
 
 pub then_some : {A B : Type 0} (o : Option A) (f : A → Option B) (y : B) → then_ o f ≡ Some y → (x : A) × (o ≡ Some x) × (f x ≡ Some y)
 then_some (Some x) f y h = (x, refl, h)

@@ -12,13 +12,13 @@ use Rattle.xmi_read.specs.Outline.{Entry, Role, Package, Class, Enum, Literal, e
 use Rattle.xmi_read.specs.Types.{is_literal_role, literals_from, literals_of, literal_text}
 use Rattle.xmi_read.specs.Parts.{literal_of}
 use Rattle.xmi_read.specs.Faults.{first_fault, TwiceName, uri_of, prefix_of, is_same_package, is_same_classifier, is_same_literal, classifier_twice}
-use Rattle.xmi_read.proofs.Lists.{map-map}
+use Rattle.xmi_text.proofs.Lists.{map-map}
 use Rattle.xmi_read.proofs.Naming.{differ}
 use Rattle.xmi_read.proofs.Roles.{packages, classes, enums, literals}
 use Rattle.xmi_read.proofs.Sound.{Fine, fine, not_when, else_parts}
 use Rattle.xmi_read.proofs.Splits.{rows, RowAt, get_row, all_rows, pairs_of_rows, Meet, Same, Later, Earlier, meet}
 use Rattle.xmi_read.proofs.Tables.{tables, package_made, class_made, enum_made, map-rows}
-use Rattle.xmi_read.proofs.Tests.{true-false, false-true, right_fails, both_fail}
+use Rattle.xmi_text.proofs.Tests.{true-false, false-true, right_fails, both_fail}
 
 -- a test that fails at all of a list fails at each
 pub fails_at : (test : Entry → Bool) (b : List Entry) (d : Entry) (m : List Entry) → list_any test (b ++ (d ∷ m)) ≡ false → test d ≡ false

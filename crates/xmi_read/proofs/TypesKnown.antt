@@ -3,13 +3,13 @@ use Rattle.std.proofs.Common.{◌≡◌, ℕ, List, [], ◌∷◌, ◌++◌, ref
 use Rattle.std.specs.Prelude.{Bool, true, false, ◌&&◌, codes, Option, Some, None, is_some, is_none, if◌then◌else◌}
 use Rattle.std.specs.Option.{option_map_or}
 use Rattle.std.proofs.lemmas.Option.{none-some, same_Some}
-use Rattle.xmi_read.specs.Markup.{given}
+use Rattle.xmi_text.specs.Markup.{given}
 use Rattle.xmi_read.specs.Outline.{Entry, Role, Stray, is_feature_role}
 use Rattle.xmi_read.specs.Rows.{typed, text_typed, child_typed, type_behind, href, is_type_role, ends_feature, Untyped}
 use Rattle.xmi_read.specs.Faults.{first_fault, typed_fault, feature_type_fault, last_feature}
 use Rattle.xmi_read.proofs.Roles.{features, types}
 use Rattle.xmi_read.proofs.Sound.{Fine, fine}
-use Rattle.xmi_read.proofs.Tests.{true-false}
+use Rattle.xmi_text.proofs.Tests.{true-false}
 
 module _ (file : List Entry) where
   -- the child that names a type, and nothing of another feature before it

@@ -1,12 +1,14 @@
 -- The classifiers of a file in their order, each with what a path tells it by: its name, and the number and name of its package.
-use Rattle.std.specs.Prelude.{ℕ, ◌-◌, ◌==◌, ◌&&◌, min, Bool, List, [], ◌∷◌, bytes_eq, Option, Some, None, if◌then◌else◌}
+use Rattle.std.specs.Prelude.{ℕ, ◌-◌, ◌==◌, ◌&&◌, Bool, List, [], ◌∷◌, bytes_eq, if◌then◌else◌}
 use Rattle.std.specs.Option.{option_map_or}
 use Rattle.xmi_read.specs.Outline.{Entry, is_classifier_role, is_package_role, name_of}
-use Rattle.xmi_read.specs.References.{Path, Target, OfData, Stand, first_stand, past, target_here, is_holder, is_number}
+use Rattle.xmi_text.specs.Fragments.{Path}
+use Rattle.xmi_text.specs.Numbers.{is_number}
+use Rattle.xmi_read.specs.References.{Target, OfData, Stand, first_stand, past, target_here, is_holder}
 use Rattle.xmi_read.specs.Types.{DataType, plain, own_type}
 use Rattle.ecore_meta.specs.declared.parts.FeatKind.TheVariants.{Opaque}
 use Rattle.ecore_meta.specs.Valid.{number_of}
-use Rattle.xmi_read.specs.Keys.{Key, place_of}
+use Rattle.xmi_text.specs.Keys.{Key, place_of}
 
 pub record Classifier : Type 0 where
   pub name : List ℕ
@@ -34,12 +36,6 @@ is_numbered p c = (is_number p.holder && number_of p.holder == c.number) && byte
 
 abbrev pub is_of_holder : Path → Classifier → Bool
 is_of_holder p c = bytes_eq p.holder c.holder && bytes_eq p.name c.name
-
--- the lesser of two places, where both are
-abbrev pub earlier : Option ℕ → Option ℕ → Option ℕ
-earlier None b = b
-earlier (Some a) None = Some a
-earlier (Some a) (Some b) = Some (min a b)
 
 -- ## Packages of one name
 

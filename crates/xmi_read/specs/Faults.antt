@@ -1,22 +1,22 @@
 -- What is wrong at an element, of each kind at most one thing; and the first thing that is wrong in a file.
-use Rattle.std.specs.Prelude.{ℕ, ◌-◌, ◌==◌, ◌&&◌, ◌||◌, not, Bool, true, false, List, [], ◌∷◌, ◌++◌, find, codes, bytes_eq, nat_lt, nat_le, Option, Some, None, option_map, is_some, is_none, slice_get, if◌then◌else◌}
+use Rattle.std.specs.Prelude.{ℕ, ◌-◌, ◌==◌, ◌&&◌, ◌||◌, not, Bool, true, false, List, [], ◌∷◌, ◌++◌, find, codes, bytes_eq, Option, Some, None, option_map, is_some, is_none, slice_get, if◌then◌else◌}
 use Rattle.std.specs.Option.{option_map_or}
-use Rattle.std.specs.List.{list_any, list_all}
-use Rattle.std.specs.Int.{is_in_range}
+use Rattle.std.specs.List.{list_any}
 use Rattle.atl_base.specs.declared.place.Place.{Place}
 use Rattle.doc_text.specs.declared.tree.Attribute.{Attribute}
 use Rattle.doc_text.specs.declared.tree.Element.{Element}
 use Rattle.ecore_meta.specs.Names.{is_plain_name}
 use Rattle.ecore_meta.specs.declared.parts.FeatKind.{FeatKind}
 use Rattle.ecore_meta.specs.declared.parts.FeatKind.TheVariants.{Int, Truth, Enum}
-use Rattle.ecore_meta.specs.Valid.{number_of}
 pub use Rattle.xmi_read.specs.declared.fault.Kind.{Kind}
 pub use Rattle.xmi_read.specs.declared.fault.Kind.TheVariants.{NotEcore, SubPackage as IsSubPackage, Generic, NoName, TwiceName, OtherFile, NoType, SuperCycle, BadOpposite, BadNumber}
-use Rattle.xmi_read.specs.Markup.{given, flag, is_bad_flag, has_text, sub_elements}
+use Rattle.xmi_text.specs.Markup.{given, flag, is_bad_flag, has_text, sub_elements}
 use Rattle.xmi_read.specs.Outline.{Entry, Role, Around, Package, Class, Enum as EnumRole, Data, Literal, Attribute as AttributeRole, Reference, SkippedAttribute, SkippedReference, Super, TypeOf, SkippedType, SubPackage, Stray, is_generic, is_package_role, is_class_role, is_enum_role, is_classifier_role, is_feature_role, count, name_of}
 use Rattle.xmi_read.specs.References.{class_named, feature_named, Own, Kept, Skips}
 use Rattle.xmi_read.specs.Types.{literals_of, literal_text}
-use Rattle.xmi_read.specs.Rows.{Typed, ByData, ByClass, Foreign, Untyped, typed, href, super_words, child_typed, is_own_super, super_numbers, twice_seen, type_behind, feature_rows, FeatureRow, foreign_word}
+use Rattle.xmi_text.specs.Inheriting.{is_own_super}
+use Rattle.xmi_read.specs.Rows.{Typed, ByData, ByClass, Foreign, Untyped, typed, href, super_words, child_typed, super_numbers, twice_seen, type_behind, feature_rows, FeatureRow, foreign_word}
+use Rattle.xmi_text.specs.Numbers.{is_upper, is_int_text}
 
 -- a kind and its value
 abbrev pub Fault : Type 0
@@ -141,29 +141,6 @@ is_named_role Literal = true
 is_named_role r = is_classifier_role r || is_feature_role r
 
 -- ## Numbers and defaults
-
-abbrev pub is_digits : List ℕ → Bool
-is_digits [] = false
-is_digits (c ∷ cs) = list_all (is_in_range 48 57) (c ∷ cs)
-
--- an upper bound is -1, -2 or at least 1
-abbrev pub is_upper : List ℕ → Bool
-is_upper [] = false
-is_upper (c ∷ cs) =
-    if c == 45 then is_digits cs && (number_of cs == 1 || number_of cs == 2)
-    else is_digits (c ∷ cs) && not (number_of (c ∷ cs) == 0)
-
--- -1, or above 1
-abbrev pub is_many_upper : List ℕ → Bool
-is_many_upper [] = false
-is_many_upper (c ∷ cs) = if c == 45 then number_of cs == 1 else nat_lt 1 (number_of (c ∷ cs))
-
--- an optional - and digits, of a signed number of 64 bits
-abbrev pub is_int_text : List ℕ → Bool
-is_int_text [] = false
-is_int_text (c ∷ cs) =
-    if c == 45 then is_digits cs && nat_le (number_of cs) 9223372036854775808
-    else is_digits (c ∷ cs) && nat_lt (number_of (c ∷ cs)) 9223372036854775808
 
 module _ (file : List Entry) where
   -- a text of an attribute's type

@@ -7,7 +7,7 @@ use Rattle.xmi_read.specs.declared.classifiers.Targets.{Targets}
 use Rattle.xmi_read.specs.Outline.{Entry}
 use Rattle.xmi_read.specs.Targets.{own_of, target_of}
 use Rattle.xmi_read.specs.DataTypes.{data_type_of}
-use Rattle.xmi_read.specs.Keys.{AreFirsts}
+use Rattle.xmi_text.specs.Keys.{AreFirsts}
 use Rattle.xmi_read.specs.Owns.{owns_of, row_key, row_own}
 use Rattle.xmi_read.specs.Literals.{literal_keys, key_text, enum_key}
 use Rattle.xmi_read.specs.Classifiers.{classifiers_in, holders_in, Row, row_in, named, numbered, aliased}

@@ -1,4 +1,3 @@
-pub mod Markup
 pub mod Outline
 pub mod References
 pub mod Types
@@ -6,7 +5,6 @@ pub mod Rows
 pub mod Faults
 pub mod Parts
 pub mod Entries
-pub mod Cuts
 pub mod Targets
 pub mod Answers
 pub mod DataTypes
@@ -16,7 +14,6 @@ pub mod Texts
 pub mod Sizes
 pub mod Walks
 pub mod FoundFaults
-pub mod Keys
 pub mod Owns
 pub mod Literals
 pub mod Classifiers

@@ -2,7 +2,7 @@
 use Rattle.std.specs.Prelude.{ℕ, zero, suc, List, [], ◌∷◌, ◌++◌, if◌then◌else◌}
 use Rattle.xmi_read.specs.Outline.{Entry, is_enum_role}
 use Rattle.xmi_read.specs.Types.{is_literal_role, literal_text}
-use Rattle.xmi_read.specs.Keys.{Key}
+use Rattle.xmi_text.specs.Keys.{Key}
 
 -- a literal of the last of so many enumerations
 abbrev pub literal_key : ℕ → Entry → List Key

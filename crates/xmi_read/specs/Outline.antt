@@ -7,7 +7,7 @@ use Rattle.doc_text.specs.declared.tree.Element.{Element}
 use Rattle.doc_text.specs.declared.tree.Prefix.{Prefix}
 pub use Rattle.xmi_read.specs.declared.outline.Role.{Role}
 pub use Rattle.xmi_read.specs.declared.outline.Role.TheVariants.{Around, Package, Class, Enum, Data, Literal, Attribute, Reference, SkippedAttribute, SkippedReference, Super, TypeOf, SkippedType, SubPackage, Stray}
-use Rattle.xmi_read.specs.Markup.{Site, site, given, or_empty, flag, sub_elements, is_typed, ecore_space}
+use Rattle.xmi_text.specs.Markup.{Site, site, given, or_empty, flag, sub_elements, is_typed, ecore_space}
 
 pub record Entry : Type 0 where
   pub role : Role

@@ -4,7 +4,7 @@ use Rattle.std.specs.Prelude.{ℕ, zero, suc, Bool, true, false, List, [], ◌�
 use Rattle.std.specs.Option.{option_map_or}
 use Rattle.xmi_read.specs.Outline.{Entry, is_class_role, is_feature_role, name_of}
 use Rattle.xmi_read.specs.References.{Own, own_here}
-use Rattle.xmi_read.specs.Keys.{Key}
+use Rattle.xmi_text.specs.Keys.{Key}
 
 pub record OwnRow : Type 0 where
   pub key : Key

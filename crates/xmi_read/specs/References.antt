@@ -1,70 +1,15 @@
 -- References within a file: to a class by its package and name, to a feature by its class and name.
 -- (EMF: the fragments `//A`, `/n/A` and `//A/f`, behind `#` or alone.)
-use Rattle.std.specs.Prelude.{ℕ, suc, ◌-◌, ◌==◌, ◌&&◌, ◌||◌, Bool, true, false, List, [], ◌∷◌, bytes_eq, Option, Some, None, option_map, if◌then◌else◌}
-use Rattle.std.specs.List.{list_any, list_all}
+use Rattle.std.specs.Prelude.{ℕ, suc, ◌-◌, ◌==◌, ◌&&◌, ◌||◌, Bool, true, false, List, [], ◌∷◌, bytes_eq, Option, Some, None, if◌then◌else◌}
 use Rattle.std.specs.Option.{option_or}
-use Rattle.std.specs.Int.{is_in_range}
 use Rattle.doc_text.specs.declared.tree.Element.{Element}
 use Rattle.ecore_meta.specs.Valid.{number_of}
 use Rattle.xmi_read.specs.Outline.{Entry, is_package_role, is_class_role, is_enum_role, is_classifier_role, is_feature_role, is_skipped_role, name_of}
-
--- ## Fragments
-
-abbrev pub has_hash : List ℕ → Bool
-has_hash = list_any (λ c. c == 35)
-
--- text before a `#`: the name of a file
-abbrev pub names_file : List ℕ → Bool
-names_file [] = false
-names_file (c ∷ cs) = if c == 35 then false else has_hash cs
-
--- what follows the `#`, where one stands first
-abbrev pub fragment : List ℕ → List ℕ
-fragment [] = []
-fragment (c ∷ cs) = if c == 35 then cs else c ∷ cs
-
-abbrev pub with_first : ℕ → List (List ℕ) → List (List ℕ)
-with_first c [] = (c ∷ []) ∷ []
-with_first c (part ∷ parts) = (c ∷ part) ∷ parts
-
--- the parts between slashes
-abbrev pub parts_of : List ℕ → List (List ℕ)
-parts_of [] = [] ∷ []
-parts_of (c ∷ cs) = if c == 47 then [] ∷ parts_of cs else with_first c (parts_of cs)
-
--- a classifier of a package, or of any
-pub record Path : Type 0 where
-  pub holder : List ℕ
-  pub name : List ℕ
-
-abbrev pub path : List ℕ → List ℕ → Path
-path p n = record { holder = p; name = n }
-
--- without a name nothing is named
-abbrev pub named_path : List ℕ → List ℕ → Option Path
-named_path p [] = None
-named_path p n = Some (path p n)
-
-abbrev pub path_of : List (List ℕ) → Option Path
-path_of ([] ∷ p ∷ n ∷ []) = named_path p n
-path_of parts = None
-
--- and a feature of it
-abbrev pub named_feature : List ℕ → List ℕ → List ℕ → Option (Path × List ℕ)
-named_feature p n [] = None
-named_feature p n f = option_map (λ c. (c, f)) (named_path p n)
-
-abbrev pub feature_path_of : List (List ℕ) → Option (Path × List ℕ)
-feature_path_of ([] ∷ p ∷ n ∷ f ∷ []) = named_feature p n f
-feature_path_of parts = None
+use Rattle.xmi_text.specs.Options.{then_}
+use Rattle.xmi_text.specs.Numbers.{is_number}
+use Rattle.xmi_text.specs.Fragments.{names_file, fragment, parts_of, Path, path_of, feature_path_of}
 
 -- ## Packages by number or name
-
--- decimal digits without a leading zero
-abbrev pub is_number : List ℕ → Bool
-is_number [] = false
-is_number (c ∷ []) = is_in_range 48 57 c
-is_number (c ∷ (d ∷ cs)) = is_in_range 49 57 c && list_all (is_in_range 48 57) (d ∷ cs)
 
 -- A package of this number, from 0, and name: the path names it, or any.
 abbrev pub is_holder : Path → ℕ → List ℕ → Bool
@@ -109,10 +54,6 @@ target_from p s (e ∷ es) = if is_named_by p s e then Some (target_here s e) el
 
 abbrev pub target : List Entry → Path → Option Target
 target file p = target_from p first_stand file
-
-abbrev pub then_ : {A B : Type 0} → Option A → (A → Option B) → Option B
-then_ (Some a) f = f a
-then_ None f = None
 
 abbrev pub local_target : List Entry → List ℕ → Option Target
 local_target file word = then_ (path_of (parts_of (fragment word))) (target file)

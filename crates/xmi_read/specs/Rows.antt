@@ -1,13 +1,15 @@
 -- The classes and features of a file in their order, each with what belongs to it; and what a class inherits, also where
 -- classes inherit from themselves.
-use Rattle.std.specs.Prelude.{ℕ, zero, suc, ◌-◌, ◌==◌, ◌&&◌, ◌||◌, not, Bool, true, false, List, [], ◌∷◌, ◌++◌, length, map, filter_map, find, codes, bytes_eq, Option, Some, None, slice_index_or, if◌then◌else◌}
+use Rattle.std.specs.Prelude.{ℕ, suc, ◌-◌, ◌&&◌, ◌||◌, not, Bool, true, false, List, [], ◌∷◌, ◌++◌, map, filter_map, find, codes, bytes_eq, Option, Some, None, if◌then◌else◌}
 use Rattle.std.specs.Option.{option_map_or}
 use Rattle.std.specs.List.{list_any}
 use Rattle.doc_text.specs.declared.tree.Prefix.{Prefix}
-use Rattle.xmi_read.specs.Markup.{given, or_empty, names, words_of}
+use Rattle.xmi_text.specs.Markup.{given, or_empty, names, words_of}
 use Rattle.xmi_read.specs.Outline.{Entry, Role, Super, TypeOf, Attribute, Stray, is_package_role, is_class_role, is_classifier_role, is_feature_role, name_of}
-use Rattle.xmi_read.specs.References.{names_file, class_named}
+use Rattle.xmi_text.specs.Fragments.{names_file}
+use Rattle.xmi_read.specs.References.{class_named}
 use Rattle.xmi_read.specs.Types.{DataType, foreign_type, local_type}
+use Rattle.xmi_text.specs.Inheriting.{conforms}
 
 abbrev pub is_super_role : Role → Bool
 is_super_role Super = true
@@ -47,19 +49,6 @@ class_rows = class_rows_from 0
 -- the supertypes of each class by their numbers
 abbrev pub super_numbers : List Entry → List (List ℕ)
 super_numbers file = map (λ row. filter_map (class_named file) row.supers) (class_rows file)
-
--- a class is another one or inherits from it, by at most so many steps
-abbrev pub inherits : ℕ → List (List ℕ) → ℕ → ℕ → Bool
-inherits zero supers c d = c == d
-inherits (suc n) supers c d = c == d || list_any (λ s. inherits n supers s d) (slice_index_or supers c [])
-
--- more steps than there are classes lead nowhere else
-abbrev pub conforms : List (List ℕ) → ℕ → ℕ → Bool
-conforms supers = inherits (length supers) supers
-
--- a class that inherits from itself
-abbrev pub is_own_super : List (List ℕ) → ℕ → Bool
-is_own_super supers c = list_any (λ s. conforms supers s c) (slice_index_or supers c [])
 
 -- ## Features
 

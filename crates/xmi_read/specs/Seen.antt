@@ -3,7 +3,7 @@
 use Rattle.std.specs.Prelude.{◌≡◌, ℕ, ◌-◌, ◌==◌, ◌&&◌, ◌||◌, Bool, List, [], bytes_eq}
 use Rattle.std.specs.HashSet.{HashSet, contains_by}
 use Rattle.std.specs.List.{list_any}
-use Rattle.xmi_read.specs.declared.keys.Key.{Key as CodeKey}
+use Rattle.xmi_text.specs.declared.keys.Key.{Key as CodeKey}
 use Rattle.xmi_read.specs.declared.earlier_names.Seen.{Seen}
 use Rattle.xmi_read.specs.Outline.{Entry, is_package_role, is_classifier_role, is_enum_role, count, name_of}
 use Rattle.xmi_read.specs.Types.{is_literal_role, literals_of, literal_text}

@@ -1,6 +1,6 @@
 -- What the code's look-ups stand for.
 use Rattle.std.specs.Prelude.{ℕ, List}
-use Rattle.xmi_read.specs.declared.references.Path.{Path as CodePath}
+use Rattle.xmi_text.specs.declared.references.Path.{Path as CodePath}
 use Rattle.xmi_read.specs.declared.target.Stand.{Stand as CodeStand}
 use Rattle.xmi_read.specs.declared.target.Target.{Target as CodeTarget}
 use Rattle.xmi_read.specs.declared.target.Target.TheVariants.{Class, Enum, Data}
@@ -8,7 +8,8 @@ use Rattle.xmi_read.specs.declared.own.FeaturePath.{FeaturePath}
 use Rattle.xmi_read.specs.declared.own.Own.{Own as CodeOwn}
 use Rattle.xmi_read.specs.declared.own.Own.TheVariants.{Kept as CodeKept, Skips as CodeSkips}
 use Rattle.xmi_read.specs.Entries.{entry_of}
-use Rattle.xmi_read.specs.References.{Own, Kept, Skips, Path, path, Stand, Target, OfClass, OfEnum, OfData}
+use Rattle.xmi_text.specs.Fragments.{Path, path}
+use Rattle.xmi_read.specs.References.{Own, Kept, Skips, Stand, Target, OfClass, OfEnum, OfData}
 
 abbrev pub path_of : CodePath → Path
 path_of p = path p.holder.now p.name.now

@@ -3,7 +3,7 @@ use Rattle.std.specs.Prelude.{List, [], ◌∷◌}
 use Rattle.atl_base.specs.XmlText.{IsXmlText}
 use Rattle.doc_text.specs.declared.tree.Attribute.{Attribute}
 use Rattle.doc_text.specs.declared.tree.Element.{Element}
-use Rattle.xmi_read.specs.Markup.{or_empty, sub_elements}
+use Rattle.xmi_text.specs.Markup.{or_empty, sub_elements}
 use Rattle.xmi_read.specs.Outline.{Entry}
 use Rattle.xmi_read.specs.Rows.{Typed, ByData}
 

@@ -5,9 +5,11 @@ use Rattle.std.specs.Option.{option_map_or}
 use Rattle.doc_text.specs.declared.tree.Element.{Element}
 use Rattle.ecore_meta.specs.declared.parts.FeatKind.{FeatKind}
 use Rattle.ecore_meta.specs.declared.parts.FeatKind.TheVariants.{Str, Int, Truth, Enum, Opaque}
-use Rattle.xmi_read.specs.Markup.{given, or_empty, ecore_space}
+use Rattle.xmi_text.specs.Markup.{given, or_empty, ecore_space}
 use Rattle.xmi_read.specs.Outline.{Entry, Role, Literal, is_enum_role, name_of}
-use Rattle.xmi_read.specs.References.{Target, OfClass, OfEnum, OfData, local_target, then_}
+use Rattle.xmi_text.specs.Options.{then_}
+use Rattle.xmi_read.specs.References.{Target, OfClass, OfEnum, OfData, local_target}
+use Rattle.xmi_text.specs.Fragments.{file_of, behind_hash, behind_slashes}
 
 -- a kind of attribute, and the default of its type
 pub record DataType : Type 0 where
@@ -44,19 +46,6 @@ named_types = (codes "String", plain Str) ∷ (codes "Integer", plain Int) ∷ (
 
 abbrev pub own_type : Element → DataType
 own_type e = option_map_or (typed_by instance_types) (given (codes "instanceClassName") e) (typed_by named_types (or_empty (given (codes "name") e)))
-
--- the file that a reference names, before its first `#`
-abbrev pub file_of : List ℕ → List ℕ
-file_of [] = []
-file_of (c ∷ cs) = if c == 35 then [] else c ∷ file_of cs
-
-abbrev pub behind_hash : List ℕ → List ℕ
-behind_hash [] = []
-behind_hash (c ∷ cs) = if c == 35 then cs else behind_hash cs
-
-abbrev pub behind_slashes : List ℕ → List ℕ
-behind_slashes (a ∷ b ∷ cs) = if a == 47 && b == 47 then cs else []
-behind_slashes cs = []
 
 -- a data type of another file: Ecore's by name, all others are opaque
 abbrev pub foreign_type : List ℕ → DataType

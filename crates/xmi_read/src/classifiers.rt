@@ -1,24 +1,25 @@
 // The classifiers of a file, by name and package.
 ghost use Rattle.std.specs.Prelude.{◌≡◌, ◌++◌, ◌∷◌, ◌<◌, ◌^◌, ◌&&◌, [], ℕ, List, Option, true, false, IfOk, OnOk, map, length, bytes_eq, option_map, slice_get, if◌then◌else◌};
 ghost use Rattle.std.specs.List.{position_from};
-ghost use Rattle.xmi_read.specs.References.{target as target_in, then_};
+ghost use Rattle.xmi_text.specs.Options.{then_, earlier as earlier_of};
+ghost use Rattle.xmi_read.specs.References.{target as target_in};
 ghost use Rattle.xmi_read.specs.Outline.{name_of as name_of_entry, is_package_role, is_classifier_role};
 ghost use Rattle.xmi_read.specs.Entries.{entry_of, entries_of};
 ghost use Rattle.xmi_read.specs.Targets.{stand_of, target_of, path_of as path_seen};
-ghost use Rattle.xmi_read.specs.Keys.{key_of, keys_of, has_place, AreFirsts};
+ghost use Rattle.xmi_text.specs.Keys.{key_of, keys_of, has_place, AreFirsts};
 ghost use Rattle.xmi_read.specs.DataTypes.{data_type_of};
-ghost use Rattle.xmi_read.specs.Classifiers.{data_of, classifier_here as classifier_here_of, classifiers_in, named, numbered, aliased, holders_in, alias_of as alias_in, is_named, is_numbered, is_of_holder, earlier as earlier_of, row_in, row_target, row_data};
+ghost use Rattle.xmi_read.specs.Classifiers.{data_of, classifier_here as classifier_here_of, classifiers_in, named, numbered, aliased, holders_in, alias_of as alias_in, is_named, is_numbered, is_of_holder, row_in, row_target, row_data};
 ghost use Rattle.xmi_read.specs.FileTables.{row_of, rows_of, AreTargets};
 
 use crate::data_type::{DataKind, DataType, own_type, plain};
-use crate::keys::{Key, first_place, first_places};
-use crate::numbers::{is_number, number};
 use crate::outline::Entry;
-use crate::references::Path;
 use crate::role::{is_classifier, is_package, name_of};
 use crate::target::{Stand, Target, past, target_here};
 use std::alloc::{AllocError, Global};
 use std::collections::HashMap;
+use xmi_text::keys::{Key, first_place, first_places};
+use xmi_text::numbers::{is_number, number};
+use xmi_text::references::Path;
 
 /// A classifier: its name, the number of its package, where that package's name stands first among the names of packages,
 /// what a reference to the classifier names, and the type that it gives where it is a data type.

@@ -4,16 +4,16 @@ ghost use Rattle.xmi_read.specs.Outline.{Entry as SomeEntry, is_package_role, is
 ghost use Rattle.xmi_read.specs.Types.{is_literal_role, literal_text as literal_text_of};
 ghost use Rattle.xmi_read.specs.Faults.{uri_of as uri_of_entry, prefix_of as prefix_of_entry};
 ghost use Rattle.xmi_read.specs.Entries.{entry_of};
-ghost use Rattle.xmi_read.specs.Keys.{is_key, key_of};
+ghost use Rattle.xmi_text.specs.Keys.{is_key, key_of};
 ghost use Rattle.xmi_read.specs.Seen.{has_key, AreSeen, repeats};
 
 use crate::data_type::{is_literal, literal_text};
 use crate::form::{prefix_of, uri_of};
-use crate::keys::Key;
 use crate::outline::Entry;
 use crate::role::{is_classifier, is_package, name_of};
 use std::alloc::{AllocError, Global};
 use std::collections::HashSet;
+use xmi_text::keys::Key;
 
 /// The namespaces and prefixes of packages, the names of classifiers, and the names and texts of literals by the numbers of
 /// their enumerations.

@@ -2,11 +2,12 @@
 ghost use Rattle.std.specs.Prelude.{◌≡◌, ◌≤◌, ◌&&◌, true, false, List, length, map, codes, bytes_eq, Some, IfOk};
 ghost use Rattle.std.specs.Option.{option_copied, option_map_or};
 ghost use Rattle.atl_base.specs.XmlText.{IsXmlText};
-ghost use Rattle.xmi_read.specs.Markup.{given as given_of, flag as flag_of, or_empty};
+ghost use Rattle.xmi_text.specs.Markup.{given as given_of, flag as flag_of, or_empty};
 ghost use Rattle.xmi_read.specs.Outline.{Entry as SomeEntry};
 ghost use Rattle.xmi_read.specs.References.{feature_named as feature_named_in};
 ghost use Rattle.xmi_read.specs.Rows.{feature_rows as feature_rows_in};
-ghost use Rattle.xmi_read.specs.Faults.{is_attribute_role, is_many_upper as is_many_upper_of};
+ghost use Rattle.xmi_text.specs.Numbers.{is_many_upper as is_many_upper_of};
+ghost use Rattle.xmi_read.specs.Faults.{is_attribute_role};
 ghost use Rattle.xmi_read.specs.Parts.{kept, opposite_of as opposite_of_entry, kind_of as kind_of_row, default_of as default_of_row, is_unique as is_unique_of, feature_of as feature_of_row};
 ghost use Rattle.xmi_read.specs.Entries.{entry_of, entries_of};
 ghost use Rattle.xmi_read.specs.DataTypes.{kind_of as kind_of_data, typed_of};
@@ -16,8 +17,6 @@ ghost use Rattle.xmi_read.specs.Texts.{AreTexts, HasTextDefault};
 
 use crate::data_type::DataKind;
 use crate::file::File;
-use crate::markup::{flag, given};
-use crate::numbers::is_many_upper;
 use crate::outline::{Entry, Role};
 use crate::own::{Own, feature_named};
 use crate::rows::FeatureRow;
@@ -28,6 +27,8 @@ use atl_base::text::Text;
 use ecore_meta::parts::{FeatKind, Feature};
 use sqlite_items::Items;
 use std::alloc::{AllocError, Global};
+use xmi_text::markup::{flag, given};
+use xmi_text::numbers::is_many_upper;
 
 fn is_attribute(role: Role) -> bool
     ensures { result ≡ is_attribute_role role }

@@ -15,10 +15,10 @@ use crate::literals::{Literals, first_text, is_text, literals_in};
 use crate::outline::Entry;
 use crate::own::Own;
 use crate::owns::{Owns, own_named, owns_in};
-use crate::references::Path;
 use crate::target::Target;
 use std::alloc::{AllocError, Global};
 use std::marker::Model;
+use xmi_text::references::Path;
 
 /// The entries of a file, which contracts see as their list. Each look-up by name takes a time that does not grow with the
 /// file.

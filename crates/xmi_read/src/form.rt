@@ -2,15 +2,15 @@
 ghost use Rattle.std.specs.Prelude.{◌≡◌, Some};
 ghost use Rattle.std.specs.List.{list_all};
 ghost use Rattle.ecore_meta.specs.Names.{begins_name as begins_name_of, continues_name as continues_name_of, is_plain_name as is_plain_name_of};
-ghost use Rattle.xmi_read.specs.Markup.{given as given_of};
+ghost use Rattle.xmi_text.specs.Markup.{given as given_of};
 ghost use Rattle.xmi_read.specs.Outline.{name_of as name_of_entry};
 ghost use Rattle.xmi_read.specs.Faults.{is_name as is_name_of, is_bad_name as is_bad_name_of, has_point as has_point_of, is_prefix as is_prefix_of, is_bad_prefix as is_bad_prefix_of, is_kept_uri as is_kept_uri_of, or_name, uri_of as uri_of_entry, prefix_of as prefix_of_entry};
 ghost use Rattle.xmi_read.specs.Entries.{entry_of};
 
-use crate::markup::{XSI, given};
 use crate::outline::Entry;
 use crate::role::name_of;
 use doc_text::XMI;
+use xmi_text::markup::{XSI, given};
 
 fn begins_name(b: u8) -> bool
     ensures { result ≡ begins_name_of b }

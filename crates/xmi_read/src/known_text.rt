@@ -1,5 +1,5 @@
 // That what a file tells is text. Each `Text` is one by its type; a contract learns it where the text is looked at.
-ghost use Rattle.xmi_read.specs.Markup.{sub_elements};
+ghost use Rattle.xmi_text.specs.Markup.{sub_elements};
 ghost use Rattle.xmi_read.specs.Entries.{entries_of};
 ghost use Rattle.xmi_read.specs.Texts.{AreAttributeTexts, AreNameTexts, IsElementText, AreTexts};
 

@@ -10,11 +10,11 @@ ghost use Rattle.xmi_read.specs.FoundFaults.{fault_in};
 use crate::data_type::DataKind;
 use crate::fault::{Fault, Kind};
 use crate::file::File;
-use crate::numbers::{is_int_text, is_upper};
 use crate::outline::{Entry, Role};
 use crate::role::is_feature;
 use crate::typed::Typed;
 use doc_text::tree::{Attribute, Element};
+use xmi_text::numbers::{is_int_text, is_upper};
 
 pub(crate) fn is_attribute(role: Role) -> bool
     ensures { result ≡ is_attribute_role role }

@@ -1,7 +1,7 @@
 // Opposites: a reference that names another has to be named back by it.
 ghost use Rattle.std.specs.Prelude.{◌≡◌, [], false, codes, slice_get};
 ghost use Rattle.std.specs.Option.{option_map_or};
-ghost use Rattle.xmi_read.specs.Markup.{given as given_of};
+ghost use Rattle.xmi_text.specs.Markup.{given as given_of};
 ghost use Rattle.xmi_read.specs.References.{feature_named as feature_named_in};
 ghost use Rattle.xmi_read.specs.Rows.{ByClass, feature_rows as feature_rows_in};
 ghost use Rattle.xmi_read.specs.Faults.{is_reference_role, is_contained as is_contained_of, is_this as is_this_of, fit_both as fit_both_of, fit as fit_of, is_opposite as is_opposite_of, is_bad_end as is_bad_end_of, is_bad_opposite as is_bad_opposite_of};
@@ -10,11 +10,11 @@ ghost use Rattle.xmi_read.specs.DataTypes.{typed_of};
 ghost use Rattle.xmi_read.specs.Tables.{feature_row_of, feature_rows_of};
 
 use crate::file::File;
-use crate::markup::{flag, given};
 use crate::outline::{Entry, Role};
 use crate::own::{Own, feature_named};
 use crate::rows::FeatureRow;
 use crate::typed::Typed;
+use xmi_text::markup::{flag, given};
 
 pub(crate) fn is_reference(role: Role) -> bool
     ensures { result ≡ is_reference_role role }

@@ -1,18 +1,17 @@
 // The outline of a file: all its elements that a metamodel is made of, in document order, each with the part that it has.
 ghost use Rattle.std.specs.Prelude.{◌≡◌, [], ◌∷◌, ◌++◌, ◌&&◌, not, is_some, codes, if◌then◌else◌, OnOk, IfOk, List};
 ghost use Rattle.doc_text.specs.declared.tree.Element.{Element as SomeElement};
-ghost use Rattle.xmi_read.specs.Markup.{given as given_of, site, sub_elements, is_typed as is_typed_of, names_local as names_local_of, names as names_of, uri_in as uri_in_of};
-ghost use Rattle.xmi_read.specs.Outline.{entry, other_children, feature_children, feature_outline as feature_outline_of, feature as feature_of, class_children, enum_children, classifier as classifier_of, package_children, package_outline as package_outline_of, around_children, outline as outline_of};
-ghost use Rattle.xmi_read.specs.Outline.{is_package as is_package_of, is_around as is_around_of};
-ghost use Rattle.xmi_read.specs.Outline.{is_named as is_named_of, is_passed as is_passed_of, is_generic as is_generic_of, is_quiet as is_quiet_of, is_skipped as is_skipped_of, has_type as has_type_of};
-ghost use Rattle.xmi_read.specs.Entries.{scope_of, entries_of, Leaves1, Leaves2, Leaves3, Leaves4, Leaves5};
+ghost use Rattle.xmi_text.specs.Markup.{given as given_of, site, sub_elements, is_typed as is_typed_of, names_local as names_local_of, names as names_of, uri_in as uri_in_of};
+ghost use Rattle.xmi_read.specs.Outline.{entry, other_children, feature_children, feature_outline as feature_outline_of, feature as feature_of, class_children, enum_children, classifier as classifier_of, package_children, package_outline as package_outline_of, around_children, outline as outline_of, is_package as is_package_of, is_around as is_around_of, is_named as is_named_of, is_passed as is_passed_of, is_generic as is_generic_of, is_quiet as is_quiet_of, is_skipped as is_skipped_of, has_type as has_type_of};
+ghost use Rattle.xmi_text.specs.Scopes.{scope_of, Leaves1, Leaves2, Leaves3, Leaves4, Leaves5};
+ghost use Rattle.xmi_read.specs.Entries.{entries_of};
 
-use crate::level::Levels;
-use crate::markup::{ECORE, flag, given};
-use crate::scope::{Scope, is_typed, root_scope, within};
 use doc_text::XMI;
 use doc_text::tree::{Child, Doc, Element};
 use std::alloc::{AllocError, Global};
+use xmi_text::level::Levels;
+use xmi_text::markup::{ECORE, flag, given};
+use xmi_text::scope::{Scope, is_typed, root_scope, within};
 
 /// The part that an element has in a file.
 #[derive(Clone, Copy, Debug, PartialEq, Eq)]

@@ -3,7 +3,8 @@ ghost use Rattle.std.specs.Prelude.{◌≡◌, ℕ, map, filter_map, nat_eq, ◌
 ghost use Rattle.std.specs.List.{list_any};
 ghost use Rattle.indexmap.specs.IndexSet.{insert_all};
 ghost use Rattle.xmi_read.specs.References.{class_named as class_named_in};
-ghost use Rattle.xmi_read.specs.Rows.{conforms, is_own_super as is_own_super_of, super_numbers as super_numbers_in, class_rows as class_rows_in};
+ghost use Rattle.xmi_text.specs.Inheriting.{conforms, is_own_super as is_own_super_of};
+ghost use Rattle.xmi_read.specs.Rows.{super_numbers as super_numbers_in, class_rows as class_rows_in};
 ghost use Rattle.xmi_read.specs.Entries.{entries_of};
 ghost use Rattle.xmi_read.specs.Tables.{class_rows_of};
 ghost use Rattle.xmi_read.specs.Walks.{AreWithin, LeadWithin};

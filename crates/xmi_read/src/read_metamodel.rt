@@ -16,19 +16,19 @@ use crate::features::features;
 use crate::file::File;
 use crate::first_fault::first_fault;
 use crate::known_text::know_texts;
-use crate::level::{Levels, levels_in};
 use crate::outline::outline;
 use crate::packages::packages;
 use crate::reach::super_numbers;
 use crate::refusal::MetaRefusal;
 use crate::rows::{class_rows, feature_rows};
-use crate::scope::DEEPEST;
 use crate::skipped::skipped;
 use crate::text::text_of;
 use doc_text::tree::Doc;
 use ecore_meta::metamodel::Metamodel;
 use ecore_meta::parts::Parts;
 use std::alloc::{AllocError, Global};
+use xmi_text::level::{Levels, levels_in};
+use xmi_text::scope::DEEPEST;
 
 // The five lists that a file stands for.
 fn parts_of(alloc: Global, file: &File<'_>) -> Result<Parts, AllocError>

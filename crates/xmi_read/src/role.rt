@@ -3,8 +3,8 @@ ghost use Rattle.std.specs.Prelude.{◌≡◌};
 ghost use Rattle.xmi_read.specs.Outline.{is_package_role as is_package_of, is_class_role as is_class_of, is_enum_role as is_enum_of, is_classifier_role as is_classifier_of, is_feature_role as is_feature_of, is_skipped_role as is_skipped_of, name_of as name_of_entry};
 ghost use Rattle.xmi_read.specs.Entries.{entry_of};
 
-use crate::markup::given_text;
 use crate::outline::{Entry, Role};
+use xmi_text::markup::given_text;
 
 pub(crate) fn is_package(role: Role) -> bool
     ensures { result ≡ is_package_of role }

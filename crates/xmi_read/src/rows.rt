@@ -6,13 +6,13 @@ ghost use Rattle.xmi_read.specs.DataTypes.{typed_of};
 ghost use Rattle.xmi_read.specs.Tables.{class_rows_of, feature_rows_of};
 
 use crate::file::File;
-use crate::markup::given_text;
 use crate::outline::{Entry, Role};
 use crate::role::{is_class, is_classifier, is_feature, is_package};
 use crate::target::one_more;
 use crate::typed::{Typed, href, type_of};
-use crate::words::words;
 use std::alloc::{AllocError, Global};
+use xmi_text::markup::given_text;
+use xmi_text::words::words;
 
 /// A class, the number of its package, and the words that name its supertypes.
 #[derive(Drop)]

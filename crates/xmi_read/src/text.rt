@@ -2,16 +2,16 @@
 ghost use Rattle.std.specs.Prelude.{◌≡◌, IfOk, Some};
 ghost use Rattle.std.specs.Option.{option_copied};
 ghost use Rattle.atl_base.specs.XmlText.{IsXmlText};
-ghost use Rattle.xmi_read.specs.Markup.{given as given_of, or_empty};
+ghost use Rattle.xmi_text.specs.Markup.{given as given_of, or_empty};
 ghost use Rattle.xmi_read.specs.Outline.{name_of as name_of_entry};
 ghost use Rattle.xmi_read.specs.Types.{literal_text as literal_text_of};
 ghost use Rattle.xmi_read.specs.Faults.{or_name, uri_of as uri_of_entry, prefix_of as prefix_of_entry};
 ghost use Rattle.xmi_read.specs.Entries.{entry_of};
 
-use crate::markup::given;
 use crate::outline::Entry;
 use atl_base::text::{Text, TextRefusal};
 use std::alloc::{AllocError, Global};
+use xmi_text::markup::given;
 
 // A copy, and an empty text where there is none.
 fn copy_of(alloc: Global, text: Option<&Text>) -> Result<Text, AllocError>

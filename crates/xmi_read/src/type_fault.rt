@@ -1,7 +1,7 @@
 // Types and supertypes that name nothing, or a class of another file.
 ghost use Rattle.std.specs.Prelude.{◌≡◌, [], ◌&&◌, map, find, is_none, is_some, None, IfOk, List, option_map, codes, if◌then◌else◌};
 ghost use Rattle.std.specs.Option.{option_copied};
-ghost use Rattle.xmi_read.specs.Markup.{given as given_of};
+ghost use Rattle.xmi_text.specs.Markup.{given as given_of};
 ghost use Rattle.xmi_read.specs.References.{class_named as class_named_in};
 ghost use Rattle.xmi_read.specs.Rows.{super_words, type_behind as type_behind_of, foreign_word as foreign_word_of};
 ghost use Rattle.xmi_read.specs.Faults.{typed_fault as typed_fault_of, supers_fault as supers_fault_in};
@@ -11,13 +11,13 @@ ghost use Rattle.xmi_read.specs.FoundFaults.{fault_in};
 
 use crate::fault::{Fault, Kind};
 use crate::file::File;
-use crate::markup::{given, given_text};
 use crate::outline::Entry;
-use crate::references::names_file;
 use crate::target::class_named;
 use crate::typed::{Typed, type_behind};
-use crate::words::words;
 use std::alloc::{AllocError, Global};
+use xmi_text::markup::{given, given_text};
+use xmi_text::references::names_file;
+use xmi_text::words::words;
 
 /// What is wrong with a type.
 pub(crate) fn typed_fault<'a>(typed: &Typed<'a>) -> Option<Fault<'a>>

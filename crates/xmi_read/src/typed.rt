@@ -5,18 +5,19 @@ ghost use Rattle.doc_text.specs.declared.tree.Prefix.{Prefix};
 ghost use Rattle.xmi_read.specs.Rows.{Untyped, is_type_role, ends_feature as ends_feature_of, href as href_of, type_behind as type_behind_of, or_foreign as or_foreign_of, is_foreign_data as is_foreign_data_of, attribute_child_typed as attribute_child_typed_in, reference_child_typed as reference_child_typed_in, attribute_typed as attribute_typed_in, reference_typed as reference_typed_in, text_typed as text_typed_in, typed as typed_in, child_typed as child_typed_in, by_data as by_data_of, by_class as by_class_of};
 ghost use Rattle.xmi_read.specs.Types.{local_type as local_type_in};
 ghost use Rattle.xmi_read.specs.References.{class_named as class_named_in};
-ghost use Rattle.xmi_read.specs.Entries.{scope_of, entry_of, entries_of};
+ghost use Rattle.xmi_text.specs.Scopes.{scope_of};
+ghost use Rattle.xmi_read.specs.Entries.{entry_of, entries_of};
 ghost use Rattle.xmi_read.specs.DataTypes.{typed_of};
 
 use crate::data_type::{DataType, foreign_type, local_type};
 use crate::file::File;
-use crate::markup::{given, given_text};
 use crate::outline::{Entry, Role};
-use crate::references::names_file;
-use crate::scope::{Scope, names};
 use crate::target::class_named;
-use crate::words::words;
 use std::alloc::{AllocError, Global};
+use xmi_text::markup::{given, given_text};
+use xmi_text::references::names_file;
+use xmi_text::scope::{Scope, names};
+use xmi_text::words::words;
 
 /// The type of a feature.
 #[derive(Clone, Copy)]

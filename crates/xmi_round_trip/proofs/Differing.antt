@@ -7,7 +7,7 @@ use Rattle.std.proofs.lemmas.List.Kept.{AllPairs-cons}
 use Rattle.ecore_meta.specs.Valid.{AllDiffer}
 use Rattle.ecore_meta.proofs.Membership.{Contains-from_flat_map}
 use Rattle.model_store.proofs.Thinned.{Contains_cases, Contains_first, Contains_later, Contains_none}
-use Rattle.xmi_read.proofs.Lists.{get_or_map, pairs_rest}
+use Rattle.xmi_text.proofs.Lists.{get_or_map, pairs_rest}
 use Rattle.xmi_round_trip.proofs.Lists.{flat_map_none, none_in}
 
 module _ {X : Type 0} where

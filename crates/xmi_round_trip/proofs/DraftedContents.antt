@@ -28,7 +28,7 @@ use Rattle.xmi_round_trip.proofs.Numbers.{first_from, next_from}
 use Rattle.xmi_round_trip.proofs.Entries.{part_of_root, part_of_content, object_is}
 use Rattle.xmi_round_trip.proofs.Targets.{renumbered_slot}
 use Rattle.model_store.proofs.Added.{contains_refers}
-use Rattle.xmi_read.proofs.Lists.{map-map}
+use Rattle.xmi_text.proofs.Lists.{map-map}
 
 -- ## Objects alone count
 

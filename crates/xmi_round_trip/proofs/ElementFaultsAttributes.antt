@@ -15,8 +15,9 @@ use Rattle.model_store.specs.declared.parts.Object.{Object}
 use Rattle.model_store.specs.Contents.{Contents, class_of, contains, holder, object_at, refers, slot}
 use Rattle.model_store.specs.Valid.{IsValid}
 use Rattle.model_store.proofs.Thinned.{Contains_none}
-use Rattle.xmi_read.specs.Markup.{words_of}
-use Rattle.xmi_read.specs.References.{names_file, then_}
+use Rattle.xmi_text.specs.Markup.{words_of}
+use Rattle.xmi_text.specs.Fragments.{names_file}
+use Rattle.xmi_text.specs.Options.{then_}
 use Rattle.xmi_models.specs.Outline.{Part as EntryPart, Around, Root, Content, Value, Cross, Unknown, Inner}
 use Rattle.xmi_models.specs.Faults.{attribute_feature, attribute_value, bad_text, foreign_in, is_href, is_nil, is_no_feature, is_passed, is_skipped_attribute, is_type, may_have_type, own_class}
 use Rattle.xmi_write.specs.declared.named.Named.TheVariants.{Inside, Root as NamedRoot, Around as NamedAround}

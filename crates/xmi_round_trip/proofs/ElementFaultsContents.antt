@@ -15,7 +15,7 @@ use Rattle.model_store.specs.Order.{preorder}
 use Rattle.model_store.specs.Valid.{IsValid, Refers}
 use Rattle.model_store.proofs.Slots.{same_feature, same_object}
 use Rattle.model_store.proofs.PathSteps.{holder_there}
-use Rattle.xmi_read.proofs.Lists.{get_of_map, in_map}
+use Rattle.xmi_text.proofs.Lists.{get_of_map, in_map}
 use Rattle.xmi_models.specs.Outline.{Entry, class_said, is_object, is_sub}
 use Rattle.xmi_models.specs.Faults.{attribute_feature, gives, has_attribute, is_second}
 use Rattle.xmi_round_trip.specs.Renumbered.{number}

@@ -15,8 +15,8 @@ use Rattle.model_store.specs.Texts.{value_text}
 use Rattle.model_store.specs.Valid.{HasSlot, IsOfType, IsValid}
 use Rattle.model_store.proofs.Added.{object_of_type, contains_refers}
 use Rattle.model_store.proofs.Thinned.{Contains_first, Contains_none}
-use Rattle.xmi_read.specs.Markup.{words_of}
-use Rattle.xmi_read.specs.References.{names_file}
+use Rattle.xmi_text.specs.Markup.{words_of}
+use Rattle.xmi_text.specs.Fragments.{names_file}
 use Rattle.xmi_models.specs.Faults.{bad_text, is_value_of, second}
 use Rattle.xmi_write.specs.Values.{is_attribute, is_untouched, joined, may_be_attribute}
 use Rattle.xmi_write.specs.Xmi.{Value, parts_of}

@@ -21,7 +21,7 @@ use Rattle.model_store.specs.Paths.{are_digits}
 use Rattle.model_store.specs.Texts.{truth_text, value_text}
 use Rattle.model_store.specs.Valid.{IsOfKind, IsOfType}
 use Rattle.model_store.proofs.PathDigits.{digits_read, number_read}
-use Rattle.xmi_read.specs.Faults.{is_digits, is_int_text}
+use Rattle.xmi_text.specs.Numbers.{is_digits, is_int_text}
 use Rattle.xmi_models.specs.Faults.{is_text_of, is_value_of}
 use Rattle.xmi_round_trip.specs.RoundTrip.{IsInRange}
 use Rattle.xmi_round_trip.proofs.Texts.{kind_text, text_is}

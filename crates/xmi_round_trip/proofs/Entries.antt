@@ -12,7 +12,7 @@ use Rattle.xmi_round_trip.specs.Renumbered.{number}
 use Rattle.xmi_round_trip.proofs.Filed.{lone, object_part}
 use Rattle.ecore_meta.specs.Inheritance.{features, name_of}
 use Rattle.model_store.specs.Valid.{IsValid}
-use Rattle.xmi_read.specs.References.{then_}
+use Rattle.xmi_text.specs.Options.{then_}
 use Rattle.xmi_names.specs.Names.{feature_named}
 use Rattle.xmi_write.specs.Xmi.{slot_attribute}
 use Rattle.xmi_round_trip.proofs.Parts.{feature_found}

@@ -15,9 +15,9 @@ use Rattle.model_store.specs.declared.parts.Object.{Object}
 use Rattle.model_store.specs.Contents.{Contents, contains, holder, object_at, objects_of, refers, slot}
 use Rattle.model_store.specs.Paths.{object_of_path, path}
 use Rattle.model_store.specs.Texts.{value_text}
-use Rattle.xmi_read.specs.Markup.{words_of}
-use Rattle.xmi_read.specs.References.{then_}
-use Rattle.xmi_read.proofs.Lists.{map-map}
+use Rattle.xmi_text.specs.Markup.{words_of}
+use Rattle.xmi_text.specs.Options.{then_}
+use Rattle.xmi_text.proofs.Lists.{map-map}
 use Rattle.xmi_models.specs.Faults.{attribute_feature}
 use Rattle.xmi_links.specs.References.{Reference, Token, by_bearers, by_path, id_in, path_in, reference_of, references_at, token_of}
 use Rattle.xmi_write.specs.declared.named.Named.{Named}

@@ -11,7 +11,7 @@ use Rattle.model_store.specs.declared.parts.Object.{Object}
 use Rattle.model_store.specs.Contents.{Contents, contains, is_contained_by, object_at, objects_of, refers, slot}
 use Rattle.model_store.specs.Valid.{IsOfType}
 use Rattle.model_store.proofs.Thinned.{Contains_first, Contains_later, Contains_none}
-use Rattle.xmi_read.proofs.Lists.{in_map, map-map}
+use Rattle.xmi_text.proofs.Lists.{in_map, map-map}
 use Rattle.xmi_models.specs.Outline.{Part, class_said, is_sub}
 use Rattle.xmi_models.specs.Faults.{Fault, first_of}
 use Rattle.xmi_models.specs.declared.fault.Kind.{Kind}

@@ -11,7 +11,7 @@ use Rattle.std.proofs.lemmas.List.Sums.{position_or_len_is}
 use Rattle.std.proofs.lemmas.Option.{get_or_from_slice_get, slice_get_within}
 use Rattle.std.proofs.lemmas.Slice.Eq.{bytes_eq-Decides}
 use Rattle.ecore_meta.specs.Valid.{AllDiffer}
-use Rattle.xmi_read.proofs.Lists.{get_or_map}
+use Rattle.xmi_text.proofs.Lists.{get_or_map}
 
 -- so all bytes of a plain name may go on one
 pub all_go_on : (bytes : List ℕ) → is_plain_name bytes ≡ true → list_all continues_name bytes ≡ true

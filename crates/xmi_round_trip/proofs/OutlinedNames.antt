@@ -15,9 +15,9 @@ use Rattle.ecore_meta.specs.declared.parts.Parts.{Parts}
 use Rattle.ecore_meta.specs.Inheritance.{features, name_of}
 use Rattle.ecore_meta.specs.Names.{IsName, IsPrefix, IsUri}
 use Rattle.ecore_meta.specs.Valid.{AllDiffer, IsMetamodel}
-use Rattle.xmi_read.specs.Markup.{uri_in}
-use Rattle.xmi_read.specs.References.{then_}
-use Rattle.xmi_read.proofs.Lists.{get_of_map, get_or_map}
+use Rattle.xmi_text.specs.Markup.{uri_in}
+use Rattle.xmi_text.specs.Options.{then_}
+use Rattle.xmi_text.proofs.Lists.{get_of_map, get_or_map}
 use Rattle.xmi_names.specs.Names.{class_at, class_named, is_class_named, is_skipped, is_sub}
 use Rattle.xmi_names.proofs.FeatureNames.{one_found}
 use Rattle.xmi_write.specs.Xmi.{declared, package_prefix}

@@ -15,8 +15,8 @@ use Rattle.ecore_meta.specs.Order.{class_no}
 use Rattle.ecore_meta.specs.Valid.{IsMetamodel}
 use Rattle.model_store.specs.declared.parts.Cellv.{Cellv}
 use Rattle.model_store.specs.Contents.{Contents}
-use Rattle.xmi_read.specs.Markup.{before_colon, behind_colon, is_called}
-use Rattle.xmi_read.specs.References.{then_}
+use Rattle.xmi_text.specs.Markup.{before_colon, behind_colon, is_called}
+use Rattle.xmi_text.specs.Options.{then_}
 use Rattle.xmi_names.specs.Names.{class_named, class_said}
 use Rattle.xmi_models.specs.Outline.{class_behind, class_of_text}
 use Rattle.xmi_write.specs.Values.{is_attribute}

@@ -27,7 +27,7 @@ use Rattle.xmi_names.specs.Names.{feature_named}
 use Rattle.xmi_names.proofs.FeatureNames.{one_found}
 use Rattle.model_store.proofs.Created.{all_contained, slot_of}
 use Rattle.model_store.specs.declared.parts.Cellv.TheVariants.{Words, Int, Truth, Literal, Obj}
-use Rattle.xmi_read.proofs.Lists.{in_map}
+use Rattle.xmi_text.proofs.Lists.{in_map}
 
 -- ## Contents
 

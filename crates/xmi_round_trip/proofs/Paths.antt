@@ -25,13 +25,13 @@ use Rattle.model_store.proofs.PathDigits.{any_append, digits_read}
 use Rattle.model_store.proofs.PathSteps.{place_small, step}
 use Rattle.model_store.proofs.Slots.{same_object}
 use Rattle.xmi_round_trip.proofs.Numbers.{there_within}
-use Rattle.xmi_read.specs.Markup.{is_blank, words_of}
-use Rattle.xmi_read.specs.References.{has_hash, names_file}
+use Rattle.xmi_text.specs.Markup.{is_blank, words_of}
+use Rattle.xmi_text.specs.Fragments.{has_hash, names_file}
 use Rattle.xmi_round_trip.proofs.Words.{IsWord, words_joined}
 use Rattle.model_store.specs.declared.parts.Cellv.{Cellv}
 use Rattle.model_store.specs.declared.parts.Cellv.TheVariants.{Obj}
 use Rattle.model_store.specs.Texts.{value_text}
-use Rattle.xmi_read.proofs.Lists.{in_map}
+use Rattle.xmi_text.proofs.Lists.{in_map}
 use Rattle.xmi_write.specs.Values.{joined}
 use Rattle.xmi_round_trip.proofs.Lists.{none_found}
 use Rattle.xmi_round_trip.proofs.Names.{all_go_on}

@@ -10,7 +10,7 @@ use Rattle.model_store.specs.declared.parts.Object.{Object}
 use Rattle.model_store.specs.Contents.{Contents, contains, is_contained_by, object_at, refers, slot}
 use Rattle.model_store.specs.Order.{preorder}
 use Rattle.model_store.specs.Valid.{IsValid}
-use Rattle.xmi_read.proofs.Lists.{map-map}
+use Rattle.xmi_text.proofs.Lists.{map-map}
 use Rattle.xmi_models.specs.Faults.{objects}
 use Rattle.xmi_links.specs.References.{Link, drafted_slot, object_by, objects_by}
 use Rattle.xmi_links.specs.ModelOf.{container_by, joined, joined_slot, referred}

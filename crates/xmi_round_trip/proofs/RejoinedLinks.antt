@@ -14,7 +14,7 @@ use Rattle.model_store.specs.Order.{preorder}
 use Rattle.model_store.specs.Valid.{IsValid, Refers}
 use Rattle.model_store.proofs.Slots.{same_feature, same_object}
 use Rattle.model_store.proofs.Thinned.{Contains_none}
-use Rattle.xmi_read.proofs.Lists.{in_map, map-map, to_map}
+use Rattle.xmi_text.proofs.Lists.{in_map, map-map, to_map}
 use Rattle.xmi_links.specs.References.{Link, link}
 use Rattle.xmi_links.specs.ModelOf.{distinct, is_of, is_to, referred}
 use Rattle.xmi_round_trip.specs.Renumbered.{number}

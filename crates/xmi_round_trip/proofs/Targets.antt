@@ -17,7 +17,7 @@ use Rattle.model_store.specs.Valid.{IsModel, IsOfKind, IsOfType, Refers, IsValid
 use Rattle.model_store.proofs.Added.{object_of_type}
 use Rattle.model_store.proofs.Created.{referred_to, slot_of}
 use Rattle.model_store.proofs.Thinned.{Contains_first, Contains_later}
-use Rattle.xmi_read.proofs.Lists.{in_map, map-map, to_map}
+use Rattle.xmi_text.proofs.Lists.{in_map, map-map, to_map}
 use Rattle.xmi_round_trip.specs.Renumbered.{renumbered_value}
 use Rattle.xmi_round_trip.proofs.Differing.{differ_before, map_differ}
 use Rattle.xmi_round_trip.proofs.Lists.{one_only, map_same}

@@ -4,7 +4,7 @@ use Rattle.std.specs.Prelude.{Contains, if◌then◌else◌}
 use Rattle.std.specs.List.{list_any}
 use Rattle.std.proofs.lemmas.Bool.{or_parts}
 use Rattle.model_store.proofs.Thinned.{Contains_first, Contains_later}
-use Rattle.xmi_read.specs.Markup.{and_word, is_blank, words_from, words_of}
+use Rattle.xmi_text.specs.Markup.{and_word, is_blank, words_from, words_of}
 use Rattle.xmi_write.specs.Values.{joined, joined_from}
 
 -- some text without a blank

@@ -28,7 +28,7 @@ use Rattle.xmi_round_trip.specs.RoundTrip.{AreTexts, IsInRange}
 use Rattle.xmi_round_trip.proofs.WritableSlots.{AllSlots, IsGoodSlot}
 use Rattle.xmi_round_trip.proofs.WritableTags.{AreOwn, type_is_plain, xsi_is_declared}
 use Rattle.xmi_round_trip.proofs.WritableTexts.{text_after, text_at, value_is_text}
-use Rattle.xmi_read.proofs.Lists.{pairs_rest}
+use Rattle.xmi_text.proofs.Lists.{pairs_rest}
 
 -- ## Pairs that differ
 

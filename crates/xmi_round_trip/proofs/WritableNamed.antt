@@ -33,7 +33,7 @@ use Rattle.xmi_round_trip.proofs.WritableNames.{name_is_plain}
 use Rattle.xmi_round_trip.proofs.WritableTags.{around_is_plain, xmi_is_declared, xmi_is_plain, xsi_is_plain}
 use Rattle.xmi_round_trip.proofs.WritableTexts.{text_at}
 use Rattle.xmi_round_trip.proofs.Lists.{at_place, some_at}
-use Rattle.xmi_read.proofs.Lists.{pairs_rest}
+use Rattle.xmi_text.proofs.Lists.{pairs_rest}
 
 -- ## Elements
 

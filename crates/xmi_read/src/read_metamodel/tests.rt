@@ -2,15 +2,15 @@
 ghost use Rattle.std.specs.Prelude.{IfOk, IsTrue, ◌≤◌, length};
 ghost use Rattle.xmi_read.specs.Outline.{outline as outline_of};
 
-use crate::level::{Levels, levels_in};
 use crate::outline::outline;
 use crate::read_metamodel::read_metamodel;
-use crate::scope::DEEPEST;
 use doc_text::read_doc;
 use doc_text::tree::Doc;
 use shown::{show_parts, show_refusal};
 use std::alloc::{AllocError, Global};
 use std::test::Fail;
+use xmi_text::level::{Levels, levels_in};
+use xmi_text::scope::DEEPEST;
 
 mod examples;
 mod refusals;

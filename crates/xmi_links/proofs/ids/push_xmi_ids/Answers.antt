@@ -3,7 +3,7 @@ use Rattle.std.specs.Prelude.{codes}
 use Rattle.doc_text.specs.Names.{xmi_space}
 use Rattle.doc_text.specs.declared.tree.Attribute.{Attribute}
 use Rattle.atl_base.specs.declared.numbers.ObjId.{ObjId}
-use Rattle.xmi_read.specs.Markup.{is_called}
+use Rattle.xmi_text.specs.Markup.{is_called}
 use Rattle.xmi_links.proofs.Steps.{told_more}
 use Rattle.xmi_links.proofs.ids.push_xmi_ids.Goals as goal
 

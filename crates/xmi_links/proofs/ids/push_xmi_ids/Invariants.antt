@@ -1,7 +1,7 @@
 use Rattle.std.proofs.Common.{◌≡◌, ◌++◌, take, map}
 use Rattle.std.specs.Prelude.{codes, filter}
 use Rattle.doc_text.specs.Names.{xmi_space}
-use Rattle.xmi_read.specs.Markup.{is_called}
+use Rattle.xmi_text.specs.Markup.{is_called}
 use Rattle.xmi_links.specs.Found.{ids_in}
 use Rattle.xmi_links.proofs.ids.push_xmi_ids.Given as goal
 

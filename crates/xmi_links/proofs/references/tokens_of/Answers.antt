@@ -1,5 +1,5 @@
 use Rattle.std.proofs.Common.{List, ℕ, Bor, map, sym, ap, ◌∙◌}
-use Rattle.xmi_read.proofs.Lists.{map-map}
+use Rattle.xmi_text.proofs.Lists.{map-map}
 use Rattle.xmi_links.specs.References.{token_of}
 use Rattle.xmi_links.proofs.Steps.{if_ok}
 use Rattle.xmi_links.proofs.references.tokens_of.Goals as goal

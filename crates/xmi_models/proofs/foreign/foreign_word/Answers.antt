@@ -1,8 +1,8 @@
 use Rattle.std.proofs.Common.{◌≡◌, ◌<◌, ℕ, List, [], get_or, length, sym, ap, ◌∙◌, Bor, arith}
 use Rattle.std.specs.Prelude.{true, false, Some}
 use Rattle.std.proofs.lemmas.List.{length-map, get_or_default}
-use Rattle.xmi_read.specs.Markup.{words_of}
-use Rattle.xmi_read.specs.References.{names_file}
+use Rattle.xmi_text.specs.Markup.{words_of}
+use Rattle.xmi_text.specs.Fragments.{names_file}
 use Rattle.xmi_models.proofs.FirstValues.{get_now}
 use Rattle.xmi_models.proofs.Passing.{word_passed, word_found}
 use Rattle.xmi_models.proofs.foreign.foreign_word.Goals as goal

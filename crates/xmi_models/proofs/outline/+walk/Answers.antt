@@ -1,6 +1,6 @@
 use Rattle.std.proofs.Common.{◌+◌, ◌++◌, ◌∷◌, Some, None, map, drop, refl, sym, ap, ◌∙◌, append-nil}
 use Rattle.std.proofs.lemmas.List.{drop_more}
-use Rattle.xmi_read.specs.Entries.{declared_of}
+use Rattle.xmi_text.specs.Scopes.{declared_of}
 use Rattle.xmi_models.specs.Outline.{walk_all, walk_child}
 use Rattle.xmi_models.specs.Scopes.{scope_of}
 use Rattle.xmi_models.specs.Entries.{entries_of, part_in, where_in, maybe_where}

@@ -2,7 +2,7 @@ use Rattle.std.proofs.Common.{sym, ap, ◌∙◌}
 use Rattle.std.specs.Prelude.{bytes_eq, find}
 use Rattle.std.specs.Option.{option_copied}
 use Rattle.doc_text.specs.declared.tree.Prefix.{Prefix}
-use Rattle.xmi_read.specs.Entries.{declared_of}
+use Rattle.xmi_text.specs.Scopes.{declared_of}
 use Rattle.xmi_models.specs.Scopes.{scope_of}
 use Rattle.xmi_models.proofs.Scopes.{own_found, outer_found}
 use Rattle.xmi_models.proofs.scope.+declared.Goals as goal

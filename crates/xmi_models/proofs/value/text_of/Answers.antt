@@ -1,5 +1,5 @@
 use Rattle.atl_base.specs.declared.text.Text.{Text}
-use Rattle.xmi_read.proofs.Offences.{not_refused}
+use Rattle.xmi_text.proofs.Offences.{not_refused}
 use Rattle.xmi_models.proofs.value.text_of.Goals as goal
 
 pub unreachable-requires : goal.unreachable-requires

@@ -1,8 +1,8 @@
 use Rattle.std.proofs.Common.{◌≡◌, ◌<◌, ℕ, List, [], get_or, length, sym, ap, subst, ◌∙◌, Bor}
 use Rattle.std.proofs.lemmas.List.{length-map}
 use Rattle.atl_base.specs.XmlText.{IsXmlText}
-use Rattle.xmi_read.specs.Markup.{words_of}
-use Rattle.xmi_read.proofs.TextWords.{words_are_texts}
+use Rattle.xmi_text.specs.Markup.{words_of}
+use Rattle.xmi_text.proofs.TextWords.{words_are_texts}
 use Rattle.xmi_models.proofs.FirstValues.{text_at, get_now}
 use Rattle.xmi_models.proofs.Walking.{if_ok}
 use Rattle.xmi_models.proofs.value.word_text.Goals as goal

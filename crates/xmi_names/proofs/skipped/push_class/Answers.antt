@@ -4,7 +4,7 @@ use Rattle.std.specs.List.{list_any}
 use Rattle.std.proofs.lemmas.List.Folds.{list_any-append}
 use Rattle.atl_base.specs.declared.numbers.ClassId.{ClassId}
 use Rattle.ecore_meta.specs.Order.{class_no}
-use Rattle.xmi_read.specs.Keys.{is_key, keys_of}
+use Rattle.xmi_text.specs.Keys.{is_key, keys_of}
 use Rattle.xmi_names.specs.Names.{class_at}
 use Rattle.xmi_names.specs.Tables.{has_skipped, keyed, names_in}
 use Rattle.xmi_names.proofs.SkippedLaws.{at_same, class_is, class_sees, kept, no_class, on_ok}

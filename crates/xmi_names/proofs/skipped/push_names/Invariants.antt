@@ -1,5 +1,5 @@
 use Rattle.std.proofs.Common.{◌≡◌, ◌++◌, drop}
-use Rattle.xmi_read.specs.Keys.{keys_of}
+use Rattle.xmi_text.specs.Keys.{keys_of}
 use Rattle.xmi_names.specs.Tables.{keyed, texts_of}
 use Rattle.xmi_names.proofs.skipped.push_names.Given as goal
 

@@ -1,6 +1,6 @@
 use Rattle.std.proofs.Common.{◌≡◌, ◌++◌, drop}
 use Rattle.std.specs.Prelude.{flat_map}
-use Rattle.xmi_read.specs.Keys.{keys_of}
+use Rattle.xmi_text.specs.Keys.{keys_of}
 use Rattle.xmi_names.specs.Tables.{keyed, names_in}
 use Rattle.xmi_names.proofs.skipped.push_seen.Given as goal
 

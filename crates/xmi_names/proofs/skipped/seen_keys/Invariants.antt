@@ -2,7 +2,7 @@ use Rattle.std.proofs.Common.{◌≡◌, ◌<◌, ◌≤◌, ℕ, List}
 use Rattle.std.specs.Prelude.{false}
 use Rattle.std.specs.List.{list_any}
 use Rattle.ecore_meta.specs.Order.{class_no}
-use Rattle.xmi_read.specs.Keys.{is_key, keys_of}
+use Rattle.xmi_text.specs.Keys.{is_key, keys_of}
 use Rattle.xmi_names.specs.Tables.{has_skipped}
 use Rattle.xmi_names.proofs.skipped.seen_keys.Given as goal
 

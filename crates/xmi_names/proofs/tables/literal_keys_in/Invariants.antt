@@ -1,5 +1,5 @@
 use Rattle.std.proofs.Common.{◌≡◌, ◌++◌, drop}
-use Rattle.xmi_read.specs.Keys.{keys_of}
+use Rattle.xmi_text.specs.Keys.{keys_of}
 use Rattle.xmi_names.specs.Tables.{literal_keys_from, literal_keys}
 use Rattle.xmi_names.proofs.tables.literal_keys_in.Given as goal
 

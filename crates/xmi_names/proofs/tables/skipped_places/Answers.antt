@@ -1,8 +1,8 @@
 use Rattle.std.proofs.Common.{ap, ◌∙◌}
 use Rattle.std.specs.Prelude.{is_some}
 use Rattle.std.specs.List.{list_any}
-use Rattle.xmi_read.specs.Keys.{is_key, keys_of}
-use Rattle.xmi_read.proofs.Positions.{position_any}
+use Rattle.xmi_text.specs.Keys.{is_key, keys_of}
+use Rattle.xmi_text.proofs.Positions.{position_any}
 use Rattle.xmi_names.proofs.tables.skipped_places.Goals as goal
 
 pub returns : goal.returns

@@ -1,5 +1,5 @@
 use Rattle.std.proofs.Common.{◌≡◌, ◌++◌, map, drop}
-use Rattle.xmi_read.specs.Keys.{keys_of}
+use Rattle.xmi_text.specs.Keys.{keys_of}
 use Rattle.xmi_read.specs.Classifiers.{aliased}
 use Rattle.xmi_read.specs.FileTables.{rows_of}
 use Rattle.xmi_read.proofs.classifiers.alias_keys.Given as goal

@@ -2,7 +2,8 @@ use Rattle.std.proofs.Common.{sym, ap, ◌∙◌}
 use Rattle.std.specs.List.{position_from}
 use Rattle.xmi_read.specs.Entries.{entries_of}
 use Rattle.xmi_read.specs.Targets.{path_of}
-use Rattle.xmi_read.specs.Classifiers.{classifiers_in, is_numbered, earlier}
+use Rattle.xmi_text.specs.Options.{earlier}
+use Rattle.xmi_read.specs.Classifiers.{classifiers_in, is_numbered}
 use Rattle.xmi_read.proofs.Classified.{any_is, either_is}
 use Rattle.xmi_read.proofs.classifiers.first_named.Goals as goal
 

@@ -1,5 +1,5 @@
 use Rattle.std.proofs.Common.{◌≡◌, ◌++◌, map, drop}
-use Rattle.xmi_read.specs.Keys.{keys_of}
+use Rattle.xmi_text.specs.Keys.{keys_of}
 use Rattle.xmi_read.specs.Classifiers.{numbered}
 use Rattle.xmi_read.specs.FileTables.{rows_of}
 use Rattle.xmi_read.proofs.classifiers.number_keys.Given as goal

@@ -1,5 +1,5 @@
 use Rattle.std.proofs.Common.{map, ap, ◌∙◌, subst}
-use Rattle.xmi_read.specs.Keys.{AreFirsts}
+use Rattle.xmi_text.specs.Keys.{AreFirsts}
 use Rattle.xmi_read.specs.Classifiers.{named, numbered, aliased}
 use Rattle.xmi_read.specs.FileTables.{rows_of}
 use Rattle.xmi_read.proofs.classifiers.targets_in.Goals as goal

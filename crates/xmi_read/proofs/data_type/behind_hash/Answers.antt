@@ -1,5 +1,5 @@
 use Rattle.std.proofs.Common.{sym}
-use Rattle.xmi_read.proofs.Cuts.{hash_cut, hash_none}
+use Rattle.xmi_text.proofs.Cuts.{hash_cut, hash_none}
 use Rattle.xmi_read.proofs.data_type.behind_hash.Goals as goal
 
 pub returns-then-at-word : goal.returns-then-at-word

@@ -1,5 +1,5 @@
 use Rattle.std.proofs.Common.{take, sym, ap, ◌∙◌}
-use Rattle.xmi_read.proofs.Cuts.{file_cut}
+use Rattle.xmi_text.proofs.Cuts.{file_cut}
 use Rattle.xmi_read.proofs.data_type.file_of.Goals as goal
 
 pub returns : goal.returns

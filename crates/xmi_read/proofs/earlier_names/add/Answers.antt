@@ -1,7 +1,7 @@
 use Rattle.std.proofs.Common.{◌∙◌}
-use Rattle.xmi_read.specs.Keys.{is_key, key_of}
+use Rattle.xmi_text.specs.Keys.{is_key, key_of}
 use Rattle.xmi_read.specs.Seen.{has_key}
-use Rattle.xmi_read.specs.declared.keys.Key.{Key}
+use Rattle.xmi_text.specs.declared.keys.Key.{Key}
 use Rattle.xmi_read.proofs.SeenBefore.{or_cond}
 use Rattle.xmi_read.proofs.earlier_names.add.Goals as goal
 

@@ -1,6 +1,6 @@
 use Rattle.std.proofs.Common.{◌≡◌, drop}
 use Rattle.std.specs.Prelude.{find}
-use Rattle.xmi_read.specs.Markup.{sub_elements}
+use Rattle.xmi_text.specs.Markup.{sub_elements}
 use Rattle.xmi_read.specs.Outline.{is_generic}
 use Rattle.xmi_read.proofs.element_fault.generic_child.Given as goal
 

@@ -1,5 +1,5 @@
 use Rattle.std.proofs.Common.{drop}
-use Rattle.xmi_read.specs.Markup.{sub_elements}
+use Rattle.xmi_text.specs.Markup.{sub_elements}
 use Rattle.xmi_read.specs.Texts.{AreNameTexts}
 use Rattle.xmi_read.proofs.known_text.know_children.Given as goal
 

@@ -1,5 +1,5 @@
 use Rattle.std.proofs.Common.{◌≡◌, ◌++◌, map, drop}
-use Rattle.xmi_read.specs.Keys.{keys_of}
+use Rattle.xmi_text.specs.Keys.{keys_of}
 use Rattle.xmi_read.specs.Literals.{enum_key}
 use Rattle.xmi_read.proofs.literals.enum_keys.Given as goal
 

@@ -1,5 +1,5 @@
 use Rattle.std.proofs.Common.{ap, ◌∙◌, subst}
-use Rattle.xmi_read.specs.Keys.{keys_of, AreFirsts}
+use Rattle.xmi_text.specs.Keys.{keys_of, AreFirsts}
 use Rattle.xmi_read.proofs.literals.text_places.Goals as goal
 
 pub returns : goal.returns

@@ -1,7 +1,8 @@
 use Rattle.std.proofs.Common.{◌≡◌, ◌++◌, drop}
-use Rattle.xmi_read.specs.Markup.{sub_elements}
+use Rattle.xmi_text.specs.Markup.{sub_elements}
 use Rattle.xmi_read.specs.Outline.{class_children}
-use Rattle.xmi_read.specs.Entries.{scope_of, entries_of}
+use Rattle.xmi_text.specs.Scopes.{scope_of}
+use Rattle.xmi_read.specs.Entries.{entries_of}
 use Rattle.xmi_read.proofs.outline.push_class_children.Given as goal
 
 -- what is to come from the children that are left completes the outline

@@ -1,7 +1,7 @@
 use Rattle.std.proofs.Common.{◌≡◌, sym, subst}
 use Rattle.std.specs.Prelude.{MatchOption, None, Some}
 use Rattle.xmi_read.specs.Targets.{feature_path}
-use Rattle.xmi_read.proofs.Fragments.{one_part, two_parts, three_parts, four_parts}
+use Rattle.xmi_text.proofs.Fragments.{one_part, two_parts, three_parts, four_parts}
 use Rattle.xmi_read.proofs.own.rooted_feature_path.Goals as goal
 
 pub returns-then-at-text : goal.returns-then-at-text

@@ -3,7 +3,8 @@ use Rattle.std.specs.Prelude.{Bool, Some, if◌then◌else◌}
 use Rattle.std.proofs.lemmas.Bool.{eq-eqb, ne_eqb}
 use Rattle.std.proofs.lemmas.List.{drop_more}
 use Rattle.xmi_read.specs.Outline.{name_of}
-use Rattle.xmi_read.specs.Rows.{conforms, twice_from}
+use Rattle.xmi_text.specs.Inheriting.{conforms}
+use Rattle.xmi_read.specs.Rows.{twice_from}
 use Rattle.xmi_read.specs.Groups.{past_run}
 use Rattle.xmi_read.specs.Tables.{feature_row_of, feature_rows_of}
 use Rattle.xmi_read.proofs.SeenRows.{run_ends, run_goes_on}

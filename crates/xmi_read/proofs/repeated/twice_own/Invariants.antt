@@ -1,6 +1,7 @@
 use Rattle.std.proofs.Common.{◌≡◌, ℕ, List, map, drop}
 use Rattle.std.specs.Prelude.{true}
-use Rattle.xmi_read.specs.Rows.{conforms, twice_from}
+use Rattle.xmi_text.specs.Inheriting.{conforms}
+use Rattle.xmi_read.specs.Rows.{twice_from}
 use Rattle.xmi_read.specs.Groups.{past_run}
 use Rattle.xmi_read.specs.Tables.{feature_rows_of}
 use Rattle.xmi_read.proofs.repeated.twice_own.Given as goal

@@ -4,7 +4,8 @@ use Rattle.std.specs.List.{list_any}
 use Rattle.std.specs.List.Sorted.{IsNonDecreasing}
 use Rattle.std.specs.Option.{option_copied}
 use Rattle.std.proofs.lemmas.List.{take_rest, get_or_default}
-use Rattle.xmi_read.specs.Rows.{conforms, twice_from}
+use Rattle.xmi_text.specs.Inheriting.{conforms}
+use Rattle.xmi_read.specs.Rows.{twice_from}
 use Rattle.xmi_read.specs.Tables.{feature_rows_of}
 use Rattle.xmi_read.proofs.Reaching.{contained}
 use Rattle.xmi_read.proofs.SeenRows.{from, from_zero, AreLeft, left_next, class_step, none_next, none_left, some_or, none_or, or_false}

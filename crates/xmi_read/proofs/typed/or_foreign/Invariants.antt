@@ -1,5 +1,4 @@
-use Rattle.std.proofs.Common.{◌≡◌, drop}
-use Rattle.std.proofs.Common.{map}
+use Rattle.std.proofs.Common.{◌≡◌, drop, map}
 use Rattle.xmi_read.specs.Rows.{or_foreign}
 use Rattle.xmi_read.proofs.typed.or_foreign.Given as goal
 

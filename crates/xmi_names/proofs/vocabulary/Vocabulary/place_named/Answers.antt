@@ -1,8 +1,8 @@
 use Rattle.std.proofs.Common.{ℕ, map, sym, ap, ◌∙◌}
 use Rattle.std.specs.Prelude.{Option, position}
 use Rattle.ecore_meta.specs.declared.parts.Parts.{Parts}
-use Rattle.xmi_read.specs.Keys.{place_of}
-use Rattle.xmi_read.specs.References.{then_}
+use Rattle.xmi_text.specs.Keys.{place_of}
+use Rattle.xmi_text.specs.Options.{then_}
 use Rattle.xmi_names.specs.Names.{is_class_named}
 use Rattle.xmi_names.specs.Tables.{class_key}
 use Rattle.xmi_names.proofs.TableLaws.{class_found}

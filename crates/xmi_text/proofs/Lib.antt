@@ -1,0 +1,12 @@
+pub mod Lists
+pub mod Paths
+pub mod Tests
+pub mod Cuts
+pub mod Scopes
+pub mod Fragments
+pub mod Capped
+pub mod WordsOf
+pub mod TextWords
+pub mod Offences
+pub mod Positions
+pub mod SameDeclarations
