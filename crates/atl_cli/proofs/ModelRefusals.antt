@@ -15,7 +15,7 @@ use Rattle.model_store.specs.Contents.{Contents}
 use Rattle.xmi_read.specs.Answers as ER
 use Rattle.xmi_read.specs.Faults.{Fault as MetaFault, first_fault as first_meta_fault}
 use Rattle.xmi_read.specs.declared.fault.Kind.TheVariants as EF
-use Rattle.xmi_read.specs.Outline as EO
+use Rattle.ecore_outline.specs.Outline as EO
 use Rattle.xmi_read.specs.Parts.{parts_of}
 use Rattle.xmi_read.specs.declared.refusal.MetaRefusal.{MetaRefusal}
 use Rattle.xmi_read.specs.declared.refusal.MetaRefusal.TheVariants as E

@@ -15,10 +15,10 @@ use Rattle.ecore_meta.specs.declared.parts.Parts.{Parts}
 use Rattle.model_store.specs.Contents.{Contents}
 use Rattle.model_store.specs.Order.{contents, Encloses, itself, by_content, HasNoCycle}
 use Rattle.xmi_read.specs.Answers.{IsMetaAnswer}
-use Rattle.xmi_read.specs.Outline.{outline}
+use Rattle.ecore_outline.specs.Outline.{outline}
 use Rattle.xmi_read.specs.declared.refusal.MetaRefusal.{MetaRefusal}
 use Rattle.xmi_read.specs.declared.refusal.MetaRefusal.TheVariants as E
-use Rattle.xmi_read.proofs.Sizes.{outline_within}
+use Rattle.ecore_outline.proofs.Sizes.{outline_within}
 use Rattle.xmi_links.specs.Answers.{IsModelAnswer}
 use Rattle.xmi_links.specs.declared.refusal.ModelRefusal.{ModelRefusal}
 use Rattle.xmi_links.specs.declared.refusal.ModelRefusal.TheVariants as M

@@ -7,7 +7,7 @@ use Rattle.atl_base.specs.declared.numbers.FeatId.{FeatId}
 use Rattle.ecore_meta.specs.declared.parts.Class.{Class}
 use Rattle.xmi_read.specs.declared.rows.ClassRow.{ClassRow as CodeClassRow}
 use Rattle.xmi_read.specs.declared.rows.FeatureRow.{FeatureRow as CodeFeatureRow}
-use Rattle.xmi_read.specs.Outline.{Entry}
+use Rattle.ecore_outline.specs.Outline.{Entry}
 use Rattle.xmi_read.specs.References.{class_named}
 use Rattle.xmi_read.specs.Rows.{ClassRow, class_rows, super_numbers, FeatureRow, feature_rows}
 use Rattle.xmi_read.specs.Parts.{own_of, class_of, classes_from}

@@ -10,7 +10,7 @@ use Rattle.std.proofs.lemmas.Option.{none-some, same_Some}
 use Rattle.std.proofs.lemmas.Slice.Eq.{bytes_eq-Decides}
 use Rattle.ecore_meta.specs.Valid.{number_of}
 use Rattle.xmi_read.specs.declared.classifiers.Targets.{Targets}
-use Rattle.xmi_read.specs.Outline.{Entry, is_classifier_role, is_package_role, name_of}
+use Rattle.ecore_outline.specs.Outline.{Entry, is_classifier_role, is_package_role, name_of}
 use Rattle.xmi_text.specs.Fragments.{Path}
 use Rattle.xmi_text.specs.Numbers.{is_number}
 use Rattle.xmi_text.specs.Options.{then_, earlier}

@@ -9,7 +9,8 @@ use Rattle.doc_text.specs.declared.tree.Attribute.{Attribute}
 use Rattle.doc_text.specs.declared.tree.Element.{Element}
 use Rattle.ecore_meta.specs.Valid.{IsTextOf, IsKindWithin, is_reference}
 use Rattle.xmi_text.specs.Markup.{Site, is_called, given}
-use Rattle.xmi_read.specs.Outline.{Entry, Attribute as AttributeRole, Reference as ReferenceRole, entry, is_feature_role, count}
+use Rattle.ecore_outline.specs.declared.outline.Role.TheVariants.{Attribute as AttributeRole, Reference as ReferenceRole}
+use Rattle.ecore_outline.specs.Outline.{Entry, entry, is_feature_role, count}
 use Rattle.xmi_read.specs.References.{Own, Kept, Skips, feature_named}
 use Rattle.xmi_read.specs.Types.{DataType}
 use Rattle.xmi_read.specs.Rows.{Typed, ByData, ByClass, Foreign, Untyped, typed}
@@ -20,7 +21,7 @@ use Rattle.xmi_read.proofs.DataTypes.{AttributeFits, ReferenceFits, attribute_fi
 use Rattle.xmi_text.proofs.Lists.{found_passes, found_fails}
 use Rattle.xmi_read.proofs.Roles.{features}
 use Rattle.xmi_read.proofs.Sound.{Fine, fine, some-none}
-use Rattle.xmi_read.proofs.Splits.{all_rows, length-rows, count-here}
+use Rattle.ecore_outline.proofs.Splits.{all_rows, length-rows, count-here}
 use Rattle.xmi_read.proofs.Tables.{tables, feature_row, feature_made}
 use Rattle.xmi_read.proofs.Targets.{feature_named_at}
 use Rattle.xmi_text.proofs.Tests.{true-false, false-true}

@@ -5,8 +5,8 @@ use Rattle.std.proofs.lemmas.Bool.{eq-eqb, ne_eqb}
 use Rattle.ecore_meta.specs.declared.parts.EnumDef.{EnumDef}
 use Rattle.ecore_meta.specs.declared.parts.Literal.{Literal}
 use Rattle.ecore_meta.specs.declared.parts.Package.{Package}
-use Rattle.xmi_read.specs.Outline.{Entry, is_package_role, is_enum_role, name_of}
-use Rattle.xmi_read.specs.Types.{is_literal_role, literals_from, literals_of}
+use Rattle.ecore_outline.specs.Outline.{Entry, is_package_role, is_enum_role, name_of}
+use Rattle.ecore_outline.specs.Enumerations.{is_literal_role, literals_from, literals_of}
 use Rattle.xmi_read.specs.Parts.{package_of, literal_of, enums_from}
 use Rattle.xmi_read.specs.Groups.{package_at, packages_in, literal_at, literals_behind, enums_in}
 use Rattle.xmi_text.proofs.Tests.{true-false}

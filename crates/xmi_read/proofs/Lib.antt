@@ -1,4 +1,3 @@
-pub mod Behind
 pub mod DataTypes
 pub mod Defaults
 pub mod Naming
@@ -8,7 +7,6 @@ pub mod Roles
 pub mod Samples
 pub mod Seen
 pub mod Sound
-pub mod Splits
 pub mod Supers
 pub mod Tables
 pub mod Targets
@@ -20,7 +18,6 @@ pub mod Groups
 pub mod Runs
 pub mod TextsOf
 pub mod FaultTexts
-pub mod Sizes
 pub mod RowsFit
 pub mod ClassParts
 pub mod FeatureParts

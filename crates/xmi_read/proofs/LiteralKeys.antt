@@ -3,9 +3,11 @@ use Rattle.std.proofs.Common.{◌≡◌, ℕ, zero, suc, List, [], ◌∷◌, �
 use Rattle.std.specs.Prelude.{Bool, true, false, cond, ◌==◌, ◌&&◌, ◌||◌, bytes_eq, Option, Some, option_map, is_some, slice_get, find, if◌then◌else◌}
 use Rattle.std.specs.List.{list_any}
 use Rattle.xmi_read.specs.declared.literals.Literals.{Literals}
-use Rattle.xmi_read.specs.Outline.{Entry, Role, Literal, is_enum_role}
+use Rattle.ecore_outline.specs.declared.outline.Role.{Role}
+use Rattle.ecore_outline.specs.declared.outline.Role.TheVariants.{Literal}
+use Rattle.ecore_outline.specs.Outline.{Entry, is_enum_role}
 use Rattle.xmi_text.specs.Options.{then_}
-use Rattle.xmi_read.specs.Types.{is_literal_role, literal_text, literals_from, literals_of, first_text}
+use Rattle.ecore_outline.specs.Enumerations.{is_literal_role, literal_text, literals_from, literals_of, first_text}
 use Rattle.xmi_text.specs.Keys.{Key, is_key, has_place}
 use Rattle.xmi_read.specs.Literals.{literal_keys_from, literal_keys, key_text, enum_key}
 use Rattle.xmi_read.specs.FileTables.{AreLiterals}

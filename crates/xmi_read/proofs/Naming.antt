@@ -8,13 +8,15 @@ use Rattle.std.proofs.lemmas.Slice.Eq.{bytes_eq-Decides}
 use Rattle.ecore_meta.specs.Names.{is_plain_name, IsName, IsPrefix, IsUri, HasNoDot}
 use Rattle.ecore_meta.specs.Valid.{AreNames}
 use Rattle.xmi_text.specs.Markup.{given, has_text, is_bad_flag}
-use Rattle.xmi_read.specs.Outline.{Entry, Package, Class, Enum, Literal, Attribute, Reference, entry, is_package_role, is_class_role, is_enum_role, is_feature_role, name_of}
-use Rattle.xmi_read.specs.Types.{is_literal_role, literals_from}
+use Rattle.ecore_outline.specs.declared.outline.Role.TheVariants.{Package, Class, Enum, Literal, Attribute, Reference}
+use Rattle.ecore_outline.specs.Outline.{Entry, entry, is_package_role, is_class_role, is_enum_role, is_feature_role, name_of}
+use Rattle.ecore_outline.specs.Enumerations.{is_literal_role, literals_from}
 use Rattle.xmi_read.specs.Parts.{literal_of}
-use Rattle.xmi_read.specs.Faults.{first_fault, is_name, is_bad_name, has_point, is_prefix, is_bad_prefix, is_kept_uri, or_name, uri_of, prefix_of, is_misnamed, is_stray, is_empty_type, flags_of}
+use Rattle.ecore_outline.specs.Forms.{is_name, is_bad_name, has_point, is_prefix, is_bad_prefix, is_kept_uri, or_name, uri_of, prefix_of}
+use Rattle.xmi_read.specs.Faults.{first_fault, is_misnamed, is_stray, is_empty_type, flags_of}
 use Rattle.xmi_read.proofs.Roles.{packages, classes, enums, literals, features}
 use Rattle.xmi_read.proofs.Sound.{Fine, fine}
-use Rattle.xmi_read.proofs.Splits.{all_rows}
+use Rattle.ecore_outline.proofs.Splits.{all_rows}
 use Rattle.xmi_read.proofs.Tables.{tables, package_made, class_made, feature_made, enum_made}
 use Rattle.xmi_text.proofs.Tests.{true-false}
 

@@ -5,7 +5,7 @@ use Rattle.std.specs.Option.{option_map_or, option_or}
 use Rattle.std.proofs.lemmas.Bool.{cases_eq, eq-eqb, ne_eqb}
 use Rattle.std.proofs.lemmas.List.Folds.{find-append}
 use Rattle.xmi_read.specs.declared.owns.Owns.{Owns}
-use Rattle.xmi_read.specs.Outline.{Entry, is_class_role, is_feature_role, name_of}
+use Rattle.ecore_outline.specs.Outline.{Entry, is_class_role, is_feature_role, name_of}
 use Rattle.xmi_text.specs.Options.{then_}
 use Rattle.xmi_read.specs.References.{Own, own_here, own_from, own_feature}
 use Rattle.xmi_read.specs.Targets.{own_of}

@@ -11,12 +11,13 @@ use Rattle.atl_base.specs.declared.numbers.FeatId.{FeatId}
 use Rattle.ecore_meta.specs.declared.parts.Class.{Class}
 use Rattle.ecore_meta.specs.Inheritance.{own_of}
 use Rattle.ecore_meta.specs.Valid.{AllDiffer, owner_of}
-use Rattle.xmi_read.specs.Outline.{Entry, Role, is_package_role, is_class_role, is_feature_role, is_skipped_role, count}
+use Rattle.ecore_outline.specs.declared.outline.Role.{Role}
+use Rattle.ecore_outline.specs.Outline.{Entry, is_package_role, is_class_role, is_feature_role, is_skipped_role, count}
 use Rattle.xmi_read.specs.Rows.{FeatureRow, feature_rows}
 use Rattle.xmi_read.specs.Parts.{class_no, feature_no, feature_of, own_of as own_from}
-use Rattle.xmi_read.proofs.Behind.{Behind, is_member_role, some_before}
+use Rattle.ecore_outline.proofs.Behind.{Behind, is_member_role, some_before}
 use Rattle.xmi_text.proofs.Lists.{get_of_map, pairs_cons}
-use Rattle.xmi_read.proofs.Splits.{row_at, all_rows, length-rows, count-append}
+use Rattle.ecore_outline.proofs.Splits.{row_at, all_rows, length-rows, count-append}
 use Rattle.xmi_read.proofs.Tables.{tables, package_made, class_made, feature_row, feature_made, skipped_made, the_features, map-rows}
 
 -- the number before the next one, where there is one

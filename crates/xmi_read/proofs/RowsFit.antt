@@ -7,18 +7,21 @@ use Rattle.std.proofs.lemmas.List.Elements.{All-nil, All-cons}
 use Rattle.ecore_meta.specs.declared.parts.FeatKind.{FeatKind}
 use Rattle.ecore_meta.specs.declared.parts.FeatKind.TheVariants.{Str, Int, Truth, Enum, Opaque, Refer}
 use Rattle.ecore_meta.specs.Valid.{IsKindWithin}
-use Rattle.xmi_read.specs.Outline.{Entry, Role, Attribute, Reference, entry, is_package_role, is_class_role, is_enum_role, is_feature_role, count}
+use Rattle.ecore_outline.specs.declared.outline.Role.{Role}
+use Rattle.ecore_outline.specs.declared.outline.Role.TheVariants.{Attribute, Reference}
+use Rattle.ecore_outline.specs.Outline.{Entry, entry, is_package_role, is_class_role, is_enum_role, is_feature_role, count}
 use Rattle.xmi_read.specs.References.{class_named, feature_named, Kept}
 use Rattle.xmi_read.specs.Rows.{Typed, ByData, ByClass, Foreign, Untyped, typed, ClassRow, class_rows, FeatureRow, feature_rows}
 use Rattle.xmi_read.specs.Sizes.{IsSmallKind, IsSmallType}
 use Rattle.xmi_read.specs.declared.rows.ClassRow.{ClassRow as CodeClassRow}
 use Rattle.xmi_read.specs.declared.rows.FeatureRow.{FeatureRow as CodeFeatureRow}
 use Rattle.xmi_read.specs.Tables.{class_row_of, class_rows_of, feature_row_of, feature_rows_of}
-use Rattle.xmi_read.specs.Texts.{AreTexts, HasTextDefault}
+use Rattle.ecore_outline.specs.Texts.{AreTexts}
+use Rattle.xmi_read.specs.Texts.{HasTextDefault}
 use Rattle.xmi_read.proofs.DataTypes.{AttributeFits, ReferenceFits, attribute_fits, reference_fits}
 use Rattle.xmi_text.proofs.Lists.{get_or_map}
 use Rattle.xmi_read.proofs.Roles.{features}
-use Rattle.xmi_read.proofs.Splits.{all_rows, length-rows}
+use Rattle.ecore_outline.proofs.Splits.{all_rows, length-rows}
 use Rattle.xmi_read.proofs.Tables.{tables, class_row, feature_row, the_classes, the_features, class_count, enum_count}
 use Rattle.xmi_read.proofs.Targets.{class_named_within, feature_named_at}
 use Rattle.xmi_read.proofs.TextsOf.{typed_default}

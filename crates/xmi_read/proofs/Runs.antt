@@ -2,7 +2,7 @@
 use Rattle.std.proofs.Common.{◌≡◌, ℕ, suc, ◌+◌, ◌-◌, ◌≤◌, ◌<◌, List, [], ◌∷◌, length, drop, refl, sym, ap, ◌∙◌, arith, subst}
 use Rattle.std.specs.Prelude.{Bool, true, false, ◌==◌, if◌then◌else◌}
 use Rattle.std.proofs.lemmas.Bool.{eqb-true, eqb-false, ne_eqb}
-use Rattle.xmi_read.specs.Outline.{Entry, is_class_role, is_feature_role}
+use Rattle.ecore_outline.specs.Outline.{Entry, is_class_role, is_feature_role}
 use Rattle.xmi_read.specs.Rows.{FeatureRow, feature_rows_from, feature_rows, typed}
 use Rattle.xmi_read.specs.Parts.{feature_no, own_of}
 use Rattle.xmi_read.specs.Groups.{own_run, IsRising}

@@ -12,18 +12,19 @@ use Rattle.ecore_meta.specs.Inheritance.{supers_of, own_of, Conforms, distinct, 
 use Rattle.ecore_meta.specs.Valid.{AllDiffer}
 use Rattle.ecore_meta.proofs.FeatureLaws.{features-is, seen-is}
 use Rattle.ecore_meta.proofs.Membership.{Contains-from_flat_map, Contains-from_distinct}
-use Rattle.xmi_read.specs.Outline.{Entry, Class, entry, is_class_role, is_feature_role, count, name_of as name_in}
+use Rattle.ecore_outline.specs.declared.outline.Role.TheVariants.{Class}
+use Rattle.ecore_outline.specs.Outline.{Entry, entry, is_class_role, is_feature_role, count, name_of as name_in}
 use Rattle.xmi_text.specs.Inheriting.{conforms}
 use Rattle.xmi_read.specs.Rows.{ClassRow, FeatureRow, feature_rows, super_numbers, is_unnamed, twice_from, twice_seen}
 use Rattle.xmi_read.specs.Parts.{feature_of}
 use Rattle.xmi_read.specs.Faults.{Fault, first_fault, TwiceName, classifier_twice}
-use Rattle.xmi_read.proofs.Behind.{Behind, is_member_role}
+use Rattle.ecore_outline.proofs.Behind.{Behind, is_member_role}
 use Rattle.xmi_text.proofs.Lists.{get_of_map, pairs_cons, pairs_rest}
 use Rattle.xmi_read.proofs.Naming.{differ}
 use Rattle.xmi_read.proofs.Owners.{own_differ, features_are, owner_row, owner_is, owners}
 use Rattle.xmi_read.proofs.Roles.{classes, features as of_feature}
 use Rattle.xmi_read.proofs.Sound.{Fine, fine, else_parts, some-none}
-use Rattle.xmi_read.proofs.Splits.{rows, row_at, length-rows}
+use Rattle.ecore_outline.proofs.Splits.{rows, row_at, length-rows}
 use Rattle.xmi_read.proofs.Supers.{supers_within, conforms_to, acyclic}
 use Rattle.xmi_read.proofs.Tables.{tables, class_row, class_made, feature_row, the_features}
 use Rattle.xmi_read.proofs.Twice.{differ_append, differ_mapped}

@@ -5,7 +5,7 @@ use Rattle.std.specs.List.{list_any}
 use Rattle.std.proofs.Math.Dec.{eqb-suc-zero}
 use Rattle.std.proofs.lemmas.List.{map_push}
 use Rattle.std.proofs.lemmas.List.Folds.{list_any-append}
-use Rattle.xmi_read.specs.Outline.{name_of}
+use Rattle.ecore_outline.specs.Outline.{name_of}
 use Rattle.xmi_text.specs.Inheriting.{conforms}
 use Rattle.xmi_read.specs.Rows.{FeatureRow, is_unnamed, twice_from}
 

@@ -6,7 +6,7 @@ use Rattle.std.specs.List.Sorted.{IsNonDecreasing}
 use Rattle.std.specs.Option.{option_or, option_copied}
 use Rattle.std.proofs.lemmas.Bool.{eqb-true, eq-eqb, ne_eqb, leb-true, le-leb, lt-leb, cases_lt, or_cases}
 use Rattle.std.proofs.lemmas.List.{drop_more, get_or-drop, get_or_default, length-drop}
-use Rattle.xmi_read.specs.Outline.{name_of}
+use Rattle.ecore_outline.specs.Outline.{name_of}
 use Rattle.xmi_text.specs.Inheriting.{conforms}
 use Rattle.xmi_read.specs.Rows.{FeatureRow, is_unnamed, twice_from}
 use Rattle.xmi_read.specs.Groups.{IsRising, past_run}

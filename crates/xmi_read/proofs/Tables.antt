@@ -7,11 +7,13 @@ use Rattle.ecore_meta.specs.declared.parts.Package.{Package}
 use Rattle.ecore_meta.specs.declared.parts.Skipped.{Skipped}
 use Rattle.ecore_meta.specs.declared.parts.Parts.{Parts}
 use Rattle.ecore_meta.specs.declared.parts.Feature.{Feature}
-use Rattle.xmi_read.specs.Outline.{Entry, Role, Class as ClassRole, Attribute, Reference, SkippedAttribute, SkippedReference, is_package_role, is_class_role, is_enum_role, is_feature_role, is_skipped_role, count, name_of}
-use Rattle.xmi_read.specs.Types.{literals_of}
+use Rattle.ecore_outline.specs.declared.outline.Role.{Role}
+use Rattle.ecore_outline.specs.declared.outline.Role.TheVariants.{Class as ClassRole, Attribute, Reference, SkippedAttribute, SkippedReference}
+use Rattle.ecore_outline.specs.Outline.{Entry, is_package_role, is_class_role, is_enum_role, is_feature_role, is_skipped_role, count, name_of}
+use Rattle.ecore_outline.specs.Enumerations.{literals_of}
 use Rattle.xmi_read.specs.Rows.{ClassRow, class_rows_from, class_rows, super_words, supers_behind, FeatureRow, feature_rows_from, feature_rows, typed}
 use Rattle.xmi_read.specs.Parts.{class_no, package_of, class_of, classes_from, feature_of, literal_of, enums_from, skipped_from, parts_of}
-use Rattle.xmi_read.proofs.Splits.{rows, count-push, count-push_other, length-rows}
+use Rattle.ecore_outline.proofs.Splits.{rows, count-push, count-push_other, length-rows}
 use Rattle.xmi_text.proofs.Tests.{false-true}
 
 pub count-next : (of : Role → Bool) (b : List Entry) (e : Entry) → count of (b ++ (e ∷ [])) ≡ (if of e.role then suc (count of b) else count of b)

@@ -3,7 +3,7 @@ use Rattle.std.proofs.Common.{◌≡◌, ◌≢◌, ℕ, suc, ◌+◌, ◌<◌, 
 use Rattle.std.specs.Prelude.{Bool, true, false, ◌==◌, ◌&&◌, bytes_eq, Option, Some, None, if◌then◌else◌}
 use Rattle.std.specs.Option.{option_or}
 use Rattle.std.proofs.lemmas.Option.{none-some, same_Some}
-use Rattle.xmi_read.specs.Outline.{Entry, is_class_role, is_enum_role, is_feature_role, is_skipped_role, count, name_of}
+use Rattle.ecore_outline.specs.Outline.{Entry, is_class_role, is_enum_role, is_feature_role, is_skipped_role, count, name_of}
 use Rattle.xmi_text.specs.Fragments.{Path, path_of, parts_of, fragment, feature_path_of, names_file}
 use Rattle.xmi_text.specs.Options.{then_}
 use Rattle.xmi_read.specs.References.{Target, OfClass, OfEnum, OfData, Stand, first_stand, past, target_here, is_named_by, target_from, target, local_target, class_of, class_named, Own, Kept, Skips, own_from, own_feature, own_named, feature_named}

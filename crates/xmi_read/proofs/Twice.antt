@@ -8,15 +8,18 @@ use Rattle.std.proofs.lemmas.List.{append-nil, length-append, get_or_append_left
 use Rattle.std.proofs.lemmas.List.Folds.{list_any-append, list_any_at}
 use Rattle.std.proofs.lemmas.List.Quantifiers.{all_pairs_push}
 use Rattle.ecore_meta.specs.Valid.{AllDiffer}
-use Rattle.xmi_read.specs.Outline.{Entry, Role, Package, Class, Enum, Literal, entry, is_package_role, is_class_role, is_enum_role, is_classifier_role, count, name_of}
-use Rattle.xmi_read.specs.Types.{is_literal_role, literals_from, literals_of, literal_text}
+use Rattle.ecore_outline.specs.declared.outline.Role.{Role}
+use Rattle.ecore_outline.specs.declared.outline.Role.TheVariants.{Package, Class, Enum, Literal}
+use Rattle.ecore_outline.specs.Outline.{Entry, entry, is_package_role, is_class_role, is_enum_role, is_classifier_role, count, name_of}
+use Rattle.ecore_outline.specs.Enumerations.{is_literal_role, literals_from, literals_of, literal_text}
 use Rattle.xmi_read.specs.Parts.{literal_of}
-use Rattle.xmi_read.specs.Faults.{first_fault, TwiceName, uri_of, prefix_of, is_same_package, is_same_classifier, is_same_literal, classifier_twice}
+use Rattle.ecore_outline.specs.Forms.{uri_of, prefix_of}
+use Rattle.xmi_read.specs.Faults.{first_fault, TwiceName, is_same_package, is_same_classifier, is_same_literal, classifier_twice}
 use Rattle.xmi_text.proofs.Lists.{map-map}
 use Rattle.xmi_read.proofs.Naming.{differ}
 use Rattle.xmi_read.proofs.Roles.{packages, classes, enums, literals}
 use Rattle.xmi_read.proofs.Sound.{Fine, fine, not_when, else_parts}
-use Rattle.xmi_read.proofs.Splits.{rows, RowAt, get_row, all_rows, pairs_of_rows, Meet, Same, Later, Earlier, meet}
+use Rattle.ecore_outline.proofs.Splits.{rows, RowAt, get_row, all_rows, pairs_of_rows, Meet, Same, Later, Earlier, meet}
 use Rattle.xmi_read.proofs.Tables.{tables, package_made, class_made, enum_made, map-rows}
 use Rattle.xmi_text.proofs.Tests.{true-false, false-true, right_fails, both_fail}
 

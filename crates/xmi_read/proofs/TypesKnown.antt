@@ -4,7 +4,9 @@ use Rattle.std.specs.Prelude.{Bool, true, false, ◌&&◌, codes, Option, Some, 
 use Rattle.std.specs.Option.{option_map_or}
 use Rattle.std.proofs.lemmas.Option.{none-some, same_Some}
 use Rattle.xmi_text.specs.Markup.{given}
-use Rattle.xmi_read.specs.Outline.{Entry, Role, Stray, is_feature_role}
+use Rattle.ecore_outline.specs.declared.outline.Role.{Role}
+use Rattle.ecore_outline.specs.declared.outline.Role.TheVariants.{Stray}
+use Rattle.ecore_outline.specs.Outline.{Entry, is_feature_role}
 use Rattle.xmi_read.specs.Rows.{typed, text_typed, child_typed, type_behind, href, is_type_role, ends_feature, Untyped}
 use Rattle.xmi_read.specs.Faults.{first_fault, typed_fault, feature_type_fault, last_feature}
 use Rattle.xmi_read.proofs.Roles.{features, types}

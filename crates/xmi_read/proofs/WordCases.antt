@@ -1,7 +1,7 @@
 -- Texts of one word, and of neither one nor two.
 use Rattle.std.proofs.Common.{◌≡◌, ◌≢◌, ℕ, ◌<◌, ◌≤◌, List, [], ◌∷◌, length, get_or, map, refl, arith, Bor}
 use Rattle.doc_text.specs.declared.tree.Prefix.{Prefix}
-use Rattle.xmi_read.specs.Outline.{Entry}
+use Rattle.ecore_outline.specs.Outline.{Entry}
 use Rattle.xmi_read.specs.Rows.{attribute_typed, reference_typed, or_foreign}
 
 pub one : (ws : List (Bor (List ℕ))) (d : Bor (List ℕ)) → 1 ≤ length ws → length ws < 2 → ws ≡ get_or ws 0 d ∷ []

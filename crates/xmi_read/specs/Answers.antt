@@ -6,7 +6,7 @@ use Rattle.doc_text.specs.declared.tree.Doc.{Doc}
 use Rattle.ecore_meta.specs.declared.parts.Parts.{Parts}
 use Rattle.xmi_read.specs.declared.refusal.MetaRefusal.{MetaRefusal}
 use Rattle.xmi_read.specs.declared.refusal.MetaRefusal.TheVariants.{NotEcore, SubPackage, Generic, NoName, TwiceName, OtherFile, NoType, SuperCycle, BadOpposite, BadNumber, Document, Memory}
-use Rattle.xmi_read.specs.Outline.{outline}
+use Rattle.ecore_outline.specs.Outline.{outline}
 use Rattle.xmi_read.specs.Faults.{Fault, first_fault, NotEcore as IsNotEcore, IsSubPackage, Generic as IsGeneric, NoName as HasNoName, TwiceName as IsTwiceName, OtherFile as IsOtherFile, NoType as HasNoType, SuperCycle as IsSuperCycle, BadOpposite as IsBadOpposite, BadNumber as IsBadNumber}
 use Rattle.xmi_read.specs.Parts.{parts_of}
 

@@ -1,7 +1,7 @@
 -- The classifiers of a file in their order, each with what a path tells it by: its name, and the number and name of its package.
 use Rattle.std.specs.Prelude.{ℕ, ◌-◌, ◌==◌, ◌&&◌, Bool, List, [], ◌∷◌, bytes_eq, if◌then◌else◌}
 use Rattle.std.specs.Option.{option_map_or}
-use Rattle.xmi_read.specs.Outline.{Entry, is_classifier_role, is_package_role, name_of}
+use Rattle.ecore_outline.specs.Outline.{Entry, is_classifier_role, is_package_role, name_of}
 use Rattle.xmi_text.specs.Fragments.{Path}
 use Rattle.xmi_text.specs.Numbers.{is_number}
 use Rattle.xmi_read.specs.References.{Target, OfData, Stand, first_stand, past, target_here, is_holder}

@@ -5,18 +5,20 @@ use Rattle.std.specs.List.{list_any}
 use Rattle.atl_base.specs.declared.place.Place.{Place}
 use Rattle.doc_text.specs.declared.tree.Attribute.{Attribute}
 use Rattle.doc_text.specs.declared.tree.Element.{Element}
-use Rattle.ecore_meta.specs.Names.{is_plain_name}
 use Rattle.ecore_meta.specs.declared.parts.FeatKind.{FeatKind}
 use Rattle.ecore_meta.specs.declared.parts.FeatKind.TheVariants.{Int, Truth, Enum}
 pub use Rattle.xmi_read.specs.declared.fault.Kind.{Kind}
 pub use Rattle.xmi_read.specs.declared.fault.Kind.TheVariants.{NotEcore, SubPackage as IsSubPackage, Generic, NoName, TwiceName, OtherFile, NoType, SuperCycle, BadOpposite, BadNumber}
 use Rattle.xmi_text.specs.Markup.{given, flag, is_bad_flag, has_text, sub_elements}
-use Rattle.xmi_read.specs.Outline.{Entry, Role, Around, Package, Class, Enum as EnumRole, Data, Literal, Attribute as AttributeRole, Reference, SkippedAttribute, SkippedReference, Super, TypeOf, SkippedType, SubPackage, Stray, is_generic, is_package_role, is_class_role, is_enum_role, is_classifier_role, is_feature_role, count, name_of}
+use Rattle.ecore_outline.specs.declared.outline.Role.{Role}
+use Rattle.ecore_outline.specs.declared.outline.Role.TheVariants.{Around, Package, Class, Enum as EnumRole, Data, Literal, Attribute as AttributeRole, Reference, SkippedAttribute, SkippedReference, Super, TypeOf, SkippedType, SubPackage, Stray}
+use Rattle.ecore_outline.specs.Outline.{Entry, is_generic, is_package_role, is_class_role, is_enum_role, is_classifier_role, is_feature_role, count, name_of}
 use Rattle.xmi_read.specs.References.{class_named, feature_named, Own, Kept, Skips}
-use Rattle.xmi_read.specs.Types.{literals_of, literal_text}
+use Rattle.ecore_outline.specs.Enumerations.{literals_of, literal_text}
 use Rattle.xmi_text.specs.Inheriting.{is_own_super}
 use Rattle.xmi_read.specs.Rows.{Typed, ByData, ByClass, Foreign, Untyped, typed, href, super_words, child_typed, super_numbers, twice_seen, type_behind, feature_rows, FeatureRow, foreign_word}
 use Rattle.xmi_text.specs.Numbers.{is_upper, is_int_text}
+use Rattle.ecore_outline.specs.Forms.{is_bad_name, has_point, is_kept_uri, uri_of, prefix_of, is_bad_prefix}
 
 -- a kind and its value
 abbrev pub Fault : Type 0
@@ -35,38 +37,6 @@ first_of [] = None
 first_of (f ∷ fs) = or_else f (first_of fs)
 
 -- ## Forms
-
--- what a name may be, where there is one
-abbrev pub is_name : List ℕ → Bool
-is_name text = is_plain_name text && not (bytes_eq text (codes "xmlns"))
-
-abbrev pub is_bad_name : List ℕ → Bool
-is_bad_name [] = false
-is_bad_name (c ∷ cs) = not (is_name (c ∷ cs))
-
-abbrev pub has_point : List ℕ → Bool
-has_point = list_any (λ c. c == 46)
-
-abbrev pub is_prefix : List ℕ → Bool
-is_prefix text = is_name text && not (bytes_eq text (codes "xml") || bytes_eq text (codes "xmi") || bytes_eq text (codes "xsi"))
-
-abbrev pub is_kept_uri : List ℕ → Bool
-is_kept_uri text = bytes_eq text (codes "http://www.omg.org/XMI") || bytes_eq text (codes "http://www.w3.org/2001/XMLSchema-instance")
-
--- a text that is given and not empty, else the name
-abbrev pub or_name : List ℕ → Option (List ℕ) → List ℕ
-or_name name (Some (c ∷ cs)) = c ∷ cs
-or_name name text = name
-
-abbrev pub uri_of : Entry → List ℕ
-uri_of e = or_name (name_of e) (given (codes "nsURI") e.site.element)
-
-abbrev pub prefix_of : Entry → List ℕ
-prefix_of e = or_name (name_of e) (given (codes "nsPrefix") e.site.element)
-
-abbrev pub is_bad_prefix : List ℕ → Bool
-is_bad_prefix [] = false
-is_bad_prefix (c ∷ cs) = not (is_prefix (c ∷ cs))
 
 abbrev pub feature_flags : List (List ℕ)
 feature_flags = codes "derived" ∷ codes "volatile" ∷ codes "transient" ∷ []

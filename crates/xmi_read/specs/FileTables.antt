@@ -4,7 +4,7 @@ use Rattle.xmi_read.specs.declared.owns.Owns.{Owns}
 use Rattle.xmi_read.specs.declared.literals.Literals.{Literals}
 use Rattle.xmi_read.specs.declared.classifiers.Classifier.{Classifier as CodeClassifier}
 use Rattle.xmi_read.specs.declared.classifiers.Targets.{Targets}
-use Rattle.xmi_read.specs.Outline.{Entry}
+use Rattle.ecore_outline.specs.Outline.{Entry}
 use Rattle.xmi_read.specs.Targets.{own_of, target_of}
 use Rattle.xmi_read.specs.DataTypes.{data_type_of}
 use Rattle.xmi_text.specs.Keys.{AreFirsts}

@@ -4,11 +4,11 @@ use Rattle.atl_base.specs.declared.numbers.FeatId.{FeatId}
 use Rattle.ecore_meta.specs.declared.parts.EnumDef.{EnumDef}
 use Rattle.ecore_meta.specs.declared.parts.Literal.{Literal}
 use Rattle.ecore_meta.specs.declared.parts.Package.{Package}
-use Rattle.xmi_read.specs.Outline.{Entry, is_package_role, is_enum_role, name_of}
-use Rattle.xmi_read.specs.Types.{is_literal_role, literal_text}
+use Rattle.ecore_outline.specs.Outline.{Entry, is_package_role, is_enum_role, name_of}
+use Rattle.ecore_outline.specs.Enumerations.{is_literal_role, literal_text}
 use Rattle.xmi_read.specs.Rows.{FeatureRow}
 use Rattle.xmi_read.specs.Parts.{feature_no}
-use Rattle.xmi_read.specs.Faults.{uri_of, prefix_of}
+use Rattle.ecore_outline.specs.Forms.{uri_of, prefix_of}
 
 abbrev pub package_at : Entry → Package
 package_at e = record { name = name_of e; uri = uri_of e; prefix = prefix_of e }

@@ -1,10 +1,8 @@
-pub mod Outline
 pub mod References
 pub mod Types
 pub mod Rows
 pub mod Faults
 pub mod Parts
-pub mod Entries
 pub mod Targets
 pub mod Answers
 pub mod DataTypes

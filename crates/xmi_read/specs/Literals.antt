@@ -1,7 +1,7 @@
 -- The literals of the enumerations of a file, in their order, each by its enumeration and text.
 use Rattle.std.specs.Prelude.{ℕ, zero, suc, List, [], ◌∷◌, ◌++◌, if◌then◌else◌}
-use Rattle.xmi_read.specs.Outline.{Entry, is_enum_role}
-use Rattle.xmi_read.specs.Types.{is_literal_role, literal_text}
+use Rattle.ecore_outline.specs.Outline.{Entry, is_enum_role}
+use Rattle.ecore_outline.specs.Enumerations.{is_literal_role, literal_text}
 use Rattle.xmi_text.specs.Keys.{Key}
 
 -- a literal of the last of so many enumerations

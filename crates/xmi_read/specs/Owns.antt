@@ -2,7 +2,7 @@
 -- behind them what is derived, volatile or transient. What stands in front of all classes is not among them.
 use Rattle.std.specs.Prelude.{ℕ, zero, suc, Bool, true, false, List, [], ◌∷◌, ◌++◌, if◌then◌else◌}
 use Rattle.std.specs.Option.{option_map_or}
-use Rattle.xmi_read.specs.Outline.{Entry, is_class_role, is_feature_role, name_of}
+use Rattle.ecore_outline.specs.Outline.{Entry, is_class_role, is_feature_role, name_of}
 use Rattle.xmi_read.specs.References.{Own, own_here}
 use Rattle.xmi_text.specs.Keys.{Key}
 

@@ -13,12 +13,13 @@ use Rattle.ecore_meta.specs.declared.parts.Feature.{Feature}
 use Rattle.ecore_meta.specs.declared.parts.FeatKind.{FeatKind}
 use Rattle.ecore_meta.specs.declared.parts.FeatKind.TheVariants.{Opaque, Refer}
 use Rattle.xmi_text.specs.Markup.{given, flag}
-use Rattle.xmi_read.specs.Outline.{Entry, is_package_role, is_class_role, is_enum_role, is_skipped_role, name_of}
+use Rattle.ecore_outline.specs.Outline.{Entry, is_package_role, is_class_role, is_enum_role, is_skipped_role, name_of}
 use Rattle.xmi_read.specs.References.{class_named, feature_named, Own, Kept}
-use Rattle.xmi_read.specs.Types.{literals_of, literal_text}
+use Rattle.ecore_outline.specs.Enumerations.{literals_of, literal_text}
 use Rattle.xmi_read.specs.Rows.{ClassRow, class_rows, FeatureRow, feature_rows, Typed, ByData, ByClass}
 use Rattle.xmi_text.specs.Numbers.{is_many_upper}
-use Rattle.xmi_read.specs.Faults.{uri_of, prefix_of, is_attribute_role}
+use Rattle.ecore_outline.specs.Forms.{uri_of, prefix_of}
+use Rattle.xmi_read.specs.Faults.{is_attribute_role}
 
 abbrev pub class_no : ℕ → ClassId
 class_no n = record { 0 = n }

@@ -4,7 +4,7 @@ use Rattle.std.specs.Prelude.{ℕ, suc, ◌-◌, ◌==◌, ◌&&◌, ◌||◌, B
 use Rattle.std.specs.Option.{option_or}
 use Rattle.doc_text.specs.declared.tree.Element.{Element}
 use Rattle.ecore_meta.specs.Valid.{number_of}
-use Rattle.xmi_read.specs.Outline.{Entry, is_package_role, is_class_role, is_enum_role, is_classifier_role, is_feature_role, is_skipped_role, name_of}
+use Rattle.ecore_outline.specs.Outline.{Entry, is_package_role, is_class_role, is_enum_role, is_classifier_role, is_feature_role, is_skipped_role, name_of}
 use Rattle.xmi_text.specs.Options.{then_}
 use Rattle.xmi_text.specs.Numbers.{is_number}
 use Rattle.xmi_text.specs.Fragments.{names_file, fragment, parts_of, Path, path_of, feature_path_of}

@@ -5,7 +5,9 @@ use Rattle.std.specs.Option.{option_map_or}
 use Rattle.std.specs.List.{list_any}
 use Rattle.doc_text.specs.declared.tree.Prefix.{Prefix}
 use Rattle.xmi_text.specs.Markup.{given, or_empty, names, words_of}
-use Rattle.xmi_read.specs.Outline.{Entry, Role, Super, TypeOf, Attribute, Stray, is_package_role, is_class_role, is_classifier_role, is_feature_role, name_of}
+use Rattle.ecore_outline.specs.declared.outline.Role.{Role}
+use Rattle.ecore_outline.specs.declared.outline.Role.TheVariants.{Super, TypeOf, Attribute, Stray}
+use Rattle.ecore_outline.specs.Outline.{Entry, is_package_role, is_class_role, is_classifier_role, is_feature_role, name_of}
 use Rattle.xmi_text.specs.Fragments.{names_file}
 use Rattle.xmi_read.specs.References.{class_named}
 use Rattle.xmi_read.specs.Types.{DataType, foreign_type, local_type}

@@ -5,9 +5,10 @@ use Rattle.std.specs.HashSet.{HashSet, contains_by}
 use Rattle.std.specs.List.{list_any}
 use Rattle.xmi_text.specs.declared.keys.Key.{Key as CodeKey}
 use Rattle.xmi_read.specs.declared.earlier_names.Seen.{Seen}
-use Rattle.xmi_read.specs.Outline.{Entry, is_package_role, is_classifier_role, is_enum_role, count, name_of}
-use Rattle.xmi_read.specs.Types.{is_literal_role, literals_of, literal_text}
-use Rattle.xmi_read.specs.Faults.{uri_of, prefix_of, is_same_package, is_same_classifier, is_same_literal}
+use Rattle.ecore_outline.specs.Outline.{Entry, is_package_role, is_classifier_role, is_enum_role, count, name_of}
+use Rattle.ecore_outline.specs.Enumerations.{is_literal_role, literals_of, literal_text}
+use Rattle.ecore_outline.specs.Forms.{uri_of, prefix_of}
+use Rattle.xmi_read.specs.Faults.{is_same_package, is_same_classifier, is_same_literal}
 
 abbrev pub has_key : {S : Type 0} → HashSet CodeKey S → ℕ → List ℕ → Bool
 has_key keys n q = contains_by (λ k. n == k.number && bytes_eq q k.text.now) keys

@@ -4,8 +4,9 @@ use Rattle.xmi_read.specs.declared.rows.ClassRow.{ClassRow as CodeClassRow}
 use Rattle.xmi_read.specs.declared.rows.FeatureRow.{FeatureRow as CodeFeatureRow}
 use Rattle.xmi_read.specs.declared.first_fault.Tables.{Tables as CodeTables}
 use Rattle.xmi_read.specs.declared.first_fault.Counts.{Counts}
-use Rattle.xmi_read.specs.Entries.{entry_of}
-use Rattle.xmi_read.specs.Outline.{Entry, Stray, count, is_class_role, is_enum_role, is_feature_role}
+use Rattle.ecore_outline.specs.Entries.{entry_of}
+use Rattle.ecore_outline.specs.declared.outline.Role.TheVariants.{Stray}
+use Rattle.ecore_outline.specs.Outline.{Entry, count, is_class_role, is_enum_role, is_feature_role}
 use Rattle.xmi_read.specs.Faults.{last_feature}
 use Rattle.xmi_read.specs.Walks.{LeadWithin}
 use Rattle.xmi_read.specs.DataTypes.{typed_of}

@@ -7,7 +7,7 @@ use Rattle.xmi_read.specs.declared.target.Target.TheVariants.{Class, Enum, Data}
 use Rattle.xmi_read.specs.declared.own.FeaturePath.{FeaturePath}
 use Rattle.xmi_read.specs.declared.own.Own.{Own as CodeOwn}
 use Rattle.xmi_read.specs.declared.own.Own.TheVariants.{Kept as CodeKept, Skips as CodeSkips}
-use Rattle.xmi_read.specs.Entries.{entry_of}
+use Rattle.ecore_outline.specs.Entries.{entry_of}
 use Rattle.xmi_text.specs.Fragments.{Path, path}
 use Rattle.xmi_read.specs.References.{Own, Kept, Skips, Stand, Target, OfClass, OfEnum, OfData}
 

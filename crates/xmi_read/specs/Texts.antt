@@ -1,29 +1,7 @@
 -- What can be read of a file is text: names, and the names and values of attributes.
-use Rattle.std.specs.Prelude.{List, [], ◌∷◌}
 use Rattle.atl_base.specs.XmlText.{IsXmlText}
-use Rattle.doc_text.specs.declared.tree.Attribute.{Attribute}
-use Rattle.doc_text.specs.declared.tree.Element.{Element}
-use Rattle.xmi_text.specs.Markup.{or_empty, sub_elements}
-use Rattle.xmi_read.specs.Outline.{Entry}
+use Rattle.xmi_text.specs.Markup.{or_empty}
 use Rattle.xmi_read.specs.Rows.{Typed, ByData}
-
-abbrev pub AreAttributeTexts : List Attribute → Type 0
-AreAttributeTexts [] = Unit {0}
-AreAttributeTexts (a ∷ more) = (IsXmlText a.name × IsXmlText a.value) × AreAttributeTexts more
-
-abbrev pub AreNameTexts : List Element → Type 0
-AreNameTexts [] = Unit {0}
-AreNameTexts (e ∷ es) = IsXmlText e.name × AreNameTexts es
-
--- an element's name, its attributes, and the names of its children
-pub record IsElementText (e : Element) : Type 0 where
-  pub name : IsXmlText e.name
-  pub attributes : AreAttributeTexts e.attributes
-  pub children : AreNameTexts (sub_elements e.children)
-
-abbrev pub AreTexts : List Entry → Type 0
-AreTexts [] = Unit {0}
-AreTexts (e ∷ es) = IsElementText e.site.element × AreTexts es
 
 -- the default that a type gives
 abbrev pub HasTextDefault : Typed → Type 0

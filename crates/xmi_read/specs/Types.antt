@@ -1,15 +1,16 @@
 -- The types of attributes: the data types of Ecore, those of the file, and enumerations; each with the default that it gives.
 -- (Ecore: EDataType, instanceClassName; the data types of the metamodel `ecore`.)
-use Rattle.std.specs.Prelude.{ℕ, suc, ◌==◌, ◌&&◌, Bool, true, false, List, [], ◌∷◌, codes, bytes_eq, find, Option, Some, None, if◌then◌else◌}
+use Rattle.std.specs.Prelude.{ℕ, List, [], ◌∷◌, codes, bytes_eq, find, Option, Some, None, if◌then◌else◌}
 use Rattle.std.specs.Option.{option_map_or}
 use Rattle.doc_text.specs.declared.tree.Element.{Element}
 use Rattle.ecore_meta.specs.declared.parts.FeatKind.{FeatKind}
 use Rattle.ecore_meta.specs.declared.parts.FeatKind.TheVariants.{Str, Int, Truth, Enum, Opaque}
 use Rattle.xmi_text.specs.Markup.{given, or_empty, ecore_space}
-use Rattle.xmi_read.specs.Outline.{Entry, Role, Literal, is_enum_role, name_of}
+use Rattle.ecore_outline.specs.Outline.{Entry}
 use Rattle.xmi_text.specs.Options.{then_}
 use Rattle.xmi_read.specs.References.{Target, OfClass, OfEnum, OfData, local_target}
 use Rattle.xmi_text.specs.Fragments.{file_of, behind_hash, behind_slashes}
+use Rattle.ecore_outline.specs.Enumerations.{literals_of, first_text}
 
 -- a kind of attribute, and the default of its type
 pub record DataType : Type 0 where
@@ -50,31 +51,6 @@ own_type e = option_map_or (typed_by instance_types) (given (codes "instanceClas
 -- a data type of another file: Ecore's by name, all others are opaque
 abbrev pub foreign_type : List ℕ → DataType
 foreign_type word = if bytes_eq (file_of word) ecore_space then typed_by ecore_types (behind_slashes (behind_hash word)) else plain Opaque
-
--- ## Enumerations
-
--- the text of a literal: its own, else its name
-abbrev pub literal_text : Entry → List ℕ
-literal_text e = option_map_or (λ text. text) (given (codes "literal") e.site.element) (name_of e)
-
-abbrev pub is_literal_role : Role → Bool
-is_literal_role Literal = true
-is_literal_role r = false
-
--- the literals of the enumeration of this number, where so many enumerations stand before
-abbrev pub literals_from : ℕ → ℕ → List Entry → List Entry
-literals_from enum n [] = []
-literals_from enum n (e ∷ es) =
-    if is_enum_role e.role then literals_from enum (suc n) es
-    else if is_literal_role e.role && n == suc enum then e ∷ literals_from enum n es
-    else literals_from enum n es
-
-abbrev pub literals_of : List Entry → ℕ → List Entry
-literals_of file enum = literals_from enum 0 file
-
-abbrev pub first_text : List Entry → Option (List ℕ)
-first_text [] = None
-first_text (e ∷ es) = Some (literal_text e)
 
 -- ## Attributes
 

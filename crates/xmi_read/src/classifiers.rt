@@ -3,8 +3,8 @@ ghost use Rattle.std.specs.Prelude.{◌≡◌, ◌++◌, ◌∷◌, ◌<◌, ◌
 ghost use Rattle.std.specs.List.{position_from};
 ghost use Rattle.xmi_text.specs.Options.{then_, earlier as earlier_of};
 ghost use Rattle.xmi_read.specs.References.{target as target_in};
-ghost use Rattle.xmi_read.specs.Outline.{name_of as name_of_entry, is_package_role, is_classifier_role};
-ghost use Rattle.xmi_read.specs.Entries.{entry_of, entries_of};
+ghost use Rattle.ecore_outline.specs.Outline.{name_of as name_of_entry, is_package_role, is_classifier_role};
+ghost use Rattle.ecore_outline.specs.Entries.{entry_of, entries_of};
 ghost use Rattle.xmi_read.specs.Targets.{stand_of, target_of, path_of as path_seen};
 ghost use Rattle.xmi_text.specs.Keys.{key_of, keys_of, has_place, AreFirsts};
 ghost use Rattle.xmi_read.specs.DataTypes.{data_type_of};
@@ -12,9 +12,9 @@ ghost use Rattle.xmi_read.specs.Classifiers.{data_of, classifier_here as classif
 ghost use Rattle.xmi_read.specs.FileTables.{row_of, rows_of, AreTargets};
 
 use crate::data_type::{DataKind, DataType, own_type, plain};
-use crate::outline::Entry;
-use crate::role::{is_classifier, is_package, name_of};
 use crate::target::{Stand, Target, past, target_here};
+use ecore_outline::outline::Entry;
+use ecore_outline::role::{is_classifier, is_package, name_of};
 use std::alloc::{AllocError, Global};
 use std::collections::HashMap;
 use xmi_text::keys::{Key, first_place, first_places};

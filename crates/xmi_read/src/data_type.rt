@@ -2,17 +2,18 @@
 ghost use Rattle.std.specs.Prelude.{◌≡◌, ◌∷◌, ℕ, List, MatchOption, None, Some, option_map};
 ghost use Rattle.std.specs.Option.{option_copied};
 ghost use Rattle.xmi_text.specs.Fragments.{file_of as file_of_word, behind_hash as behind_hash_of, behind_slashes as behind_slashes_of};
-ghost use Rattle.xmi_read.specs.Types.{plain as plain_of, DataType as SomeDataType, typed_by, ecore_types, instance_types, named_types, own_type as own_type_of, foreign_type as foreign_type_of, literal_text as literal_text_of, is_literal_role, local_type as local_type_in};
-ghost use Rattle.xmi_read.specs.Entries.{entry_of, entries_of};
+ghost use Rattle.ecore_outline.specs.Enumerations.{literal_text as literal_text_of, is_literal_role};
+ghost use Rattle.xmi_read.specs.Types.{plain as plain_of, DataType as SomeDataType, typed_by, ecore_types, instance_types, named_types, own_type as own_type_of, foreign_type as foreign_type_of, local_type as local_type_in};
+ghost use Rattle.ecore_outline.specs.Entries.{entry_of, entries_of};
 ghost use Rattle.xmi_read.specs.DataTypes.{kind_of, data_type_of};
 ghost use Rattle.xmi_read.specs.References.{local_target as local_target_in};
 ghost use Rattle.xmi_read.specs.Classifiers.{data_of};
 
 use crate::file::File;
-use crate::outline::{Entry, Role};
-use crate::role::name_of;
 use crate::target::{Target, local_target};
 use doc_text::tree::Element;
+use ecore_outline::outline::{Entry, Role};
+use ecore_outline::role::name_of;
 use xmi_text::cut::place_of;
 use xmi_text::markup::{ECORE, given, given_text};
 use xmi_text::references::{fragment, path_of};

@@ -1,16 +1,16 @@
 // The names that stand before an element: those of packages, of classifiers, and of the literals of each enumeration.
 ghost use Rattle.std.specs.Prelude.{◌≡◌, ◌&&◌, ◌||◌, ◌-◌, [], ℕ, List, nat_lt, OnOk};
-ghost use Rattle.xmi_read.specs.Outline.{Entry as SomeEntry, is_package_role, is_classifier_role, is_enum_role, count, name_of as name_of_entry};
-ghost use Rattle.xmi_read.specs.Types.{is_literal_role, literal_text as literal_text_of};
-ghost use Rattle.xmi_read.specs.Faults.{uri_of as uri_of_entry, prefix_of as prefix_of_entry};
-ghost use Rattle.xmi_read.specs.Entries.{entry_of};
+ghost use Rattle.ecore_outline.specs.Outline.{Entry as SomeEntry, is_package_role, is_classifier_role, is_enum_role, count, name_of as name_of_entry};
+ghost use Rattle.ecore_outline.specs.Enumerations.{is_literal_role, literal_text as literal_text_of};
+ghost use Rattle.ecore_outline.specs.Forms.{uri_of as uri_of_entry, prefix_of as prefix_of_entry};
+ghost use Rattle.ecore_outline.specs.Entries.{entry_of};
 ghost use Rattle.xmi_text.specs.Keys.{is_key, key_of};
 ghost use Rattle.xmi_read.specs.Seen.{has_key, AreSeen, repeats};
 
 use crate::data_type::{is_literal, literal_text};
-use crate::form::{prefix_of, uri_of};
-use crate::outline::Entry;
-use crate::role::{is_classifier, is_package, name_of};
+use ecore_outline::form::{prefix_of, uri_of};
+use ecore_outline::outline::Entry;
+use ecore_outline::role::{is_classifier, is_package, name_of};
 use std::alloc::{AllocError, Global};
 use std::collections::HashSet;
 use xmi_text::keys::Key;

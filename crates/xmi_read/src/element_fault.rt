@@ -3,15 +3,16 @@ ghost use Rattle.std.specs.Prelude.{◌≡◌, ◌&&◌, ◌||◌, [], bytes_eq,
 ghost use Rattle.std.specs.Option.{option_copied};
 ghost use Rattle.std.specs.List.{list_any};
 ghost use Rattle.xmi_text.specs.Markup.{is_bad_flag as is_bad_flag_of};
-ghost use Rattle.xmi_read.specs.Outline.{is_generic as is_generic_of, is_package_role, name_of as name_of_entry};
-ghost use Rattle.xmi_read.specs.Faults.{feature_flags, flags_of, is_bad_name as is_bad_name_of, is_bad_prefix as is_bad_prefix_of, is_kept_uri as is_kept_uri_of, uri_of as uri_of_entry, prefix_of as prefix_of_entry, is_misnamed as is_misnamed_of, is_stray as is_stray_of, is_empty_type as is_empty_type_of, is_not_ecore as is_not_ecore_of, is_named_role as is_named_role_of, generic_attribute as generic_attribute_of, generic_child as generic_child_of};
-ghost use Rattle.xmi_read.specs.Entries.{entry_of, entries_of};
+ghost use Rattle.ecore_outline.specs.Outline.{is_generic as is_generic_of, is_package_role, name_of as name_of_entry};
+ghost use Rattle.ecore_outline.specs.Forms.{is_bad_name as is_bad_name_of, is_bad_prefix as is_bad_prefix_of, is_kept_uri as is_kept_uri_of, uri_of as uri_of_entry, prefix_of as prefix_of_entry};
+ghost use Rattle.xmi_read.specs.Faults.{feature_flags, flags_of, is_misnamed as is_misnamed_of, is_stray as is_stray_of, is_empty_type as is_empty_type_of, is_not_ecore as is_not_ecore_of, is_named_role as is_named_role_of, generic_attribute as generic_attribute_of, generic_child as generic_child_of};
+ghost use Rattle.ecore_outline.specs.Entries.{entry_of, entries_of};
 
-use crate::form::{has_point, is_bad_name, is_bad_prefix, is_kept_uri, prefix_of, uri_of};
-use crate::outline::{Entry, Role, is_generic};
-use crate::role::{is_classifier, is_feature, is_package, name_of};
 use atl_base::text::Text;
 use doc_text::tree::{Attribute, Child, Element};
+use ecore_outline::form::{has_point, is_bad_name, is_bad_prefix, is_kept_uri, prefix_of, uri_of};
+use ecore_outline::outline::{Entry, Role, is_generic};
+use ecore_outline::role::{is_classifier, is_feature, is_package, name_of};
 use xmi_text::markup::{given, has_text, is_bad_flag};
 
 fn has_bad_feature_flag(element: &Element) -> bool

@@ -1,14 +1,14 @@
 // The enumerations of a file, with their literals.
 ghost use Rattle.std.specs.Prelude.{◌≡◌, IfOk};
-ghost use Rattle.xmi_read.specs.Outline.{name_of as name_of_entry};
-ghost use Rattle.xmi_read.specs.Entries.{entry_of, entries_of};
+ghost use Rattle.ecore_outline.specs.Outline.{name_of as name_of_entry};
+ghost use Rattle.ecore_outline.specs.Entries.{entry_of, entries_of};
 ghost use Rattle.xmi_read.specs.Groups.{literal_at, literals_behind, enums_in};
 
 use crate::data_type::is_literal;
-use crate::outline::Entry;
-use crate::role::is_enum;
-use crate::text::{literal_text, name_text};
 use ecore_meta::parts::{EnumDef, Literal};
+use ecore_outline::outline::Entry;
+use ecore_outline::role::is_enum;
+use ecore_outline::text::{literal_text, name_text};
 use sqlite_items::Items;
 use std::alloc::{AllocError, Global};
 

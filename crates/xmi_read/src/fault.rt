@@ -1,15 +1,15 @@
 // What is wrong at an element: its kind and the text that shows it.
 ghost use Rattle.std.specs.Prelude.{◌≡◌, ◌&&◌, Option, Some, None, bytes_eq, [], IfSome};
-ghost use Rattle.xmi_read.specs.Outline.{name_of as name_of_entry};
+ghost use Rattle.ecore_outline.specs.Outline.{name_of as name_of_entry};
 ghost use Rattle.xmi_read.specs.Faults.{Fault as SomeFault, when as when_of, or_else as or_else_of, is_not_ecore as is_not_ecore_of, is_sub_role, generic_in as generic_in_of, is_named_role as is_named_role_of, NotEcore, IsSubPackage, NoName};
-ghost use Rattle.xmi_read.specs.Entries.{entry_of, entries_of};
+ghost use Rattle.ecore_outline.specs.Entries.{entry_of, entries_of};
 ghost use Rattle.xmi_read.specs.FoundFaults.{fault_in};
 
 use crate::element_fault::{generic_attribute, generic_child, is_named_role, is_not_ecore};
-use crate::outline::{Entry, Role};
-use crate::role::name_of;
 use atl_base::place::Place;
 use doc_text::tree::Element;
+use ecore_outline::outline::{Entry, Role};
+use ecore_outline::role::name_of;
 
 /// A kind of fault, in the order in which those of one element are told.
 #[derive(Clone, Copy, Debug, PartialEq, Eq)]

@@ -3,16 +3,16 @@ ghost use Rattle.std.specs.Prelude.{◌≡◌, ◌++◌, ◌∷◌, [], IfOk, On
 ghost use Rattle.xmi_text.specs.Options.{then_};
 ghost use Rattle.std.specs.Option.{option_copied};
 ghost use Rattle.std.specs.List.{list_any};
-ghost use Rattle.xmi_read.specs.Types.{literals_of, literal_text as literal_text_of, first_text as first_text_of};
-ghost use Rattle.xmi_read.specs.Entries.{entry_of, entries_of};
+ghost use Rattle.ecore_outline.specs.Enumerations.{literals_of, literal_text as literal_text_of, first_text as first_text_of};
+ghost use Rattle.ecore_outline.specs.Entries.{entry_of, entries_of};
 ghost use Rattle.xmi_text.specs.Keys.{key_of, keys_of, AreFirsts};
 ghost use Rattle.xmi_read.specs.Literals.{literal_keys as literal_keys_of, literal_key, key_text, enum_key as enum_key_of};
 ghost use Rattle.xmi_read.specs.FileTables.{AreLiterals};
 
 use crate::data_type::{is_literal, literal_text};
-use crate::outline::Entry;
-use crate::role::is_enum;
 use crate::target::one_more;
+use ecore_outline::outline::Entry;
+use ecore_outline::role::is_enum;
 use std::alloc::{AllocError, Global};
 use std::collections::HashMap;
 use xmi_text::keys::{Key, first_place, first_places};

@@ -1,14 +1,14 @@
 // The features that references name: by a class and a name.
 ghost use Rattle.std.specs.Prelude.{◌≡◌, ℕ, ◌==◌, ◌&&◌, suc, [], ◌∷◌, bytes_eq, MatchOption, None, Some};
-ghost use Rattle.xmi_read.specs.Outline.{name_of as name_of_entry};
+ghost use Rattle.ecore_outline.specs.Outline.{name_of as name_of_entry};
 ghost use Rattle.xmi_text.specs.Fragments.{parts_of, named_feature as named_feature_of, feature_path_of as feature_path_of_parts};
 ghost use Rattle.xmi_read.specs.References.{own_named as own_named_in, feature_named as feature_named_in};
-ghost use Rattle.xmi_read.specs.Entries.{entry_of, entries_of};
+ghost use Rattle.ecore_outline.specs.Entries.{entry_of, entries_of};
 ghost use Rattle.xmi_read.specs.Targets.{own_of, feature_path};
 
 use crate::file::File;
-use crate::outline::Entry;
 use crate::target::Target;
+use ecore_outline::outline::Entry;
 use xmi_text::cut::place_of;
 use xmi_text::references::{Path, fragment, named_path, names_file};
 

@@ -2,17 +2,17 @@
 ghost use Rattle.std.specs.Prelude.{◌≡◌, ◌++◌, ◌∷◌, [], IfOk, OnOk, map, option_map, slice_get};
 ghost use Rattle.xmi_text.specs.Options.{then_};
 ghost use Rattle.xmi_read.specs.References.{own_here as own_here_of, own_feature};
-ghost use Rattle.xmi_read.specs.Outline.{name_of as name_of_entry};
-ghost use Rattle.xmi_read.specs.Entries.{entry_of, entries_of};
+ghost use Rattle.ecore_outline.specs.Outline.{name_of as name_of_entry};
+ghost use Rattle.ecore_outline.specs.Entries.{entry_of, entries_of};
 ghost use Rattle.xmi_read.specs.Targets.{own_of};
 ghost use Rattle.xmi_text.specs.Keys.{keys_of};
 ghost use Rattle.xmi_read.specs.Owns.{own_row, owns_from, row_key, row_own};
 ghost use Rattle.xmi_read.specs.FileTables.{AreOwns};
 
-use crate::outline::Entry;
 use crate::own::Own;
-use crate::role::{is_class, is_feature, is_skipped, name_of};
 use crate::target::one_more;
+use ecore_outline::outline::Entry;
+use ecore_outline::role::{is_class, is_feature, is_skipped, name_of};
 use std::alloc::{AllocError, Global};
 use std::collections::HashMap;
 use xmi_text::keys::{Key, first_place, first_places};

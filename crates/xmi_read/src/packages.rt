@@ -1,12 +1,12 @@
 // The packages of a file.
 ghost use Rattle.std.specs.Prelude.{◌≡◌, IfOk};
 ghost use Rattle.xmi_read.specs.Groups.{package_at, packages_in};
-ghost use Rattle.xmi_read.specs.Entries.{entry_of, entries_of};
+ghost use Rattle.ecore_outline.specs.Entries.{entry_of, entries_of};
 
-use crate::outline::Entry;
-use crate::role::is_package;
-use crate::text::{name_text, prefix_text, uri_text};
 use ecore_meta::parts::Package;
+use ecore_outline::outline::Entry;
+use ecore_outline::role::is_package;
+use ecore_outline::text::{name_text, prefix_text, uri_text};
 use sqlite_items::Items;
 use std::alloc::{AllocError, Global};
 

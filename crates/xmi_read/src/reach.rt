@@ -5,14 +5,14 @@ ghost use Rattle.indexmap.specs.IndexSet.{insert_all};
 ghost use Rattle.xmi_read.specs.References.{class_named as class_named_in};
 ghost use Rattle.xmi_text.specs.Inheriting.{conforms, is_own_super as is_own_super_of};
 ghost use Rattle.xmi_read.specs.Rows.{super_numbers as super_numbers_in, class_rows as class_rows_in};
-ghost use Rattle.xmi_read.specs.Entries.{entries_of};
+ghost use Rattle.ecore_outline.specs.Entries.{entries_of};
 ghost use Rattle.xmi_read.specs.Tables.{class_rows_of};
 ghost use Rattle.xmi_read.specs.Walks.{AreWithin, LeadWithin};
 
 use crate::file::File;
-use crate::outline::Entry;
 use crate::rows::ClassRow;
 use crate::target::class_named;
+use ecore_outline::outline::Entry;
 use indexmap::IndexSet;
 use sqlite_items::Items;
 use std::alloc::{AllocError, Global};

@@ -3,17 +3,17 @@ ghost use Rattle.std.specs.Prelude.{◌≡◌, ◌<◌, ◌≤◌, ◌+◌, ℕ,
 ghost use Rattle.std.specs.Option.{option_copied, option_or};
 ghost use Rattle.std.specs.List.{list_any};
 ghost use Rattle.std.specs.List.Sorted.{IsNonDecreasing};
-ghost use Rattle.xmi_read.specs.Outline.{name_of as name_of_entry};
+ghost use Rattle.ecore_outline.specs.Outline.{name_of as name_of_entry};
 ghost use Rattle.xmi_text.specs.Inheriting.{conforms};
 ghost use Rattle.xmi_read.specs.Rows.{FeatureRow as SomeRow, twice_from};
 ghost use Rattle.xmi_read.specs.Groups.{IsRising, past_run};
-ghost use Rattle.xmi_read.specs.Entries.{entry_of};
+ghost use Rattle.ecore_outline.specs.Entries.{entry_of};
 ghost use Rattle.xmi_read.specs.Tables.{feature_row_of, feature_rows_of};
 ghost use Rattle.xmi_read.specs.Walks.{LeadWithin};
 
 use crate::reach::reach;
-use crate::role::name_of;
 use crate::rows::FeatureRow;
+use ecore_outline::role::name_of;
 use indexmap::IndexSet;
 use sqlite_items::Items;
 use std::alloc::{AllocError, Global};

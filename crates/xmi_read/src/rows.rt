@@ -1,15 +1,15 @@
 // The classes and features of a file in their order, each with what belongs to it.
 ghost use Rattle.std.specs.Prelude.{◌≡◌, ◌++◌, ◌∷◌, [], ◌-◌, map, OnOk, IfOk};
 ghost use Rattle.xmi_read.specs.Rows.{is_super_role, ends_class as ends_class_of, supers_behind, super_words, typed as typed_in, class_rows as class_rows_in, feature_rows as feature_rows_in};
-ghost use Rattle.xmi_read.specs.Entries.{entry_of, entries_of};
+ghost use Rattle.ecore_outline.specs.Entries.{entry_of, entries_of};
 ghost use Rattle.xmi_read.specs.DataTypes.{typed_of};
 ghost use Rattle.xmi_read.specs.Tables.{class_rows_of, feature_rows_of};
 
 use crate::file::File;
-use crate::outline::{Entry, Role};
-use crate::role::{is_class, is_classifier, is_feature, is_package};
 use crate::target::one_more;
 use crate::typed::{Typed, href, type_of};
+use ecore_outline::outline::{Entry, Role};
+use ecore_outline::role::{is_class, is_classifier, is_feature, is_package};
 use std::alloc::{AllocError, Global};
 use xmi_text::markup::given_text;
 use xmi_text::words::words;

@@ -1,15 +1,15 @@
 // The features that a metamodel leaves out: derived, volatile and transient ones.
 ghost use Rattle.std.specs.Prelude.{◌≡◌, ◌-◌, ◌≤◌, List, length, IfOk};
-ghost use Rattle.xmi_read.specs.Outline.{Entry as SomeEntry, name_of as name_of_entry};
+ghost use Rattle.ecore_outline.specs.Outline.{Entry as SomeEntry, name_of as name_of_entry};
 ghost use Rattle.xmi_read.specs.Parts.{class_no, skipped_from};
-ghost use Rattle.xmi_read.specs.Entries.{entry_of, entries_of};
+ghost use Rattle.ecore_outline.specs.Entries.{entry_of, entries_of};
 
-use crate::outline::Entry;
-use crate::role::{is_class, is_skipped};
 use crate::target::one_more;
-use crate::text::name_text;
 use atl_base::numbers::ClassId;
 use ecore_meta::parts::Skipped;
+use ecore_outline::outline::Entry;
+use ecore_outline::role::{is_class, is_skipped};
+use ecore_outline::text::name_text;
 use sqlite_items::Items;
 use std::alloc::{AllocError, Global};
 

@@ -2,14 +2,14 @@
 ghost use Rattle.std.specs.Prelude.{◌≡◌, ℕ, ◌<◌, ◌^◌, suc, if◌then◌else◌, MatchOption, None, Some};
 ghost use Rattle.xmi_text.specs.Fragments.{path};
 ghost use Rattle.xmi_read.specs.References.{past as past_of, target_here as target_here_of, class_named as class_named_in, local_target as local_target_in};
-ghost use Rattle.xmi_read.specs.Outline.{is_package_role, name_of as name_of_entry};
-ghost use Rattle.xmi_read.specs.Entries.{entry_of, entries_of};
+ghost use Rattle.ecore_outline.specs.Outline.{is_package_role, name_of as name_of_entry};
+ghost use Rattle.ecore_outline.specs.Entries.{entry_of, entries_of};
 ghost use Rattle.xmi_read.specs.Targets.{stand_of, target_of, path_of as path_seen};
 
 use crate::file::File;
-use crate::outline::Entry;
-use crate::role::{is_class, is_enum, is_package, name_of};
 use doc_text::tree::Element;
+use ecore_outline::outline::Entry;
+use ecore_outline::role::{is_class, is_enum, is_package, name_of};
 use xmi_text::references::{fragment, path_of};
 
 /// A class by its number, an enumeration by its number, or a data type of the file's own.

@@ -6,13 +6,13 @@ ghost use Rattle.xmi_read.specs.Rows.{Untyped, is_type_role, ends_feature as end
 ghost use Rattle.xmi_read.specs.Types.{local_type as local_type_in};
 ghost use Rattle.xmi_read.specs.References.{class_named as class_named_in};
 ghost use Rattle.xmi_text.specs.Scopes.{scope_of};
-ghost use Rattle.xmi_read.specs.Entries.{entry_of, entries_of};
+ghost use Rattle.ecore_outline.specs.Entries.{entry_of, entries_of};
 ghost use Rattle.xmi_read.specs.DataTypes.{typed_of};
 
 use crate::data_type::{DataType, foreign_type, local_type};
 use crate::file::File;
-use crate::outline::{Entry, Role};
 use crate::target::class_named;
+use ecore_outline::outline::{Entry, Role};
 use std::alloc::{AllocError, Global};
 use xmi_text::markup::{given, given_text};
 use xmi_text::references::names_file;

@@ -1,11 +1,11 @@
 // Metamodels from their files: small ones in full, files as Eclipse writes them, and refusals of each kind.
 ghost use Rattle.std.specs.Prelude.{IfOk, IsTrue, ◌≤◌, length};
-ghost use Rattle.xmi_read.specs.Outline.{outline as outline_of};
+ghost use Rattle.ecore_outline.specs.Outline.{outline as outline_of};
 
-use crate::outline::outline;
 use crate::read_metamodel::read_metamodel;
 use doc_text::read_doc;
 use doc_text::tree::Doc;
+use ecore_outline::outline::outline;
 use shown::{show_parts, show_refusal};
 use std::alloc::{AllocError, Global};
 use std::test::Fail;

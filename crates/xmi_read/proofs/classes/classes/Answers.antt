@@ -1,7 +1,7 @@
 use Rattle.std.proofs.Common.{◌≤◌, ◌++◌, ◌∷◌, [], length, refl, sym, ap, ◌∙◌, subst, arith}
 use Rattle.std.specs.Prelude.{All}
 use Rattle.std.proofs.lemmas.List.{length-map}
-use Rattle.xmi_read.specs.Entries.{entry_of, entries_of}
+use Rattle.ecore_outline.specs.Entries.{entry_of, entries_of}
 use Rattle.xmi_read.specs.Tables.{class_row_of, class_rows_of, feature_row_of}
 use Rattle.xmi_read.specs.Parts.{classes_from}
 use Rattle.xmi_read.proofs.ClassLoop.{supers_at, rising_first, own_is, own_within, rising_past, are_past, told_past}

@@ -1,6 +1,6 @@
 use Rattle.std.proofs.Common.{◌≡◌, ◌++◌, ◌≤◌, ℕ, length, drop}
 use Rattle.xmi_read.specs.Parts.{own_of, classes_from}
-use Rattle.xmi_read.specs.Entries.{entries_of}
+use Rattle.ecore_outline.specs.Entries.{entries_of}
 use Rattle.xmi_read.specs.Tables.{class_rows_of, feature_rows_of}
 use Rattle.xmi_read.specs.Groups.{IsRising}
 use Rattle.xmi_read.proofs.classes.classes.Given as goal

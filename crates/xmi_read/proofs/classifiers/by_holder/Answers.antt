@@ -1,5 +1,5 @@
 use Rattle.std.proofs.Common.{sym, ◌∙◌}
-use Rattle.xmi_read.specs.Entries.{entries_of}
+use Rattle.ecore_outline.specs.Entries.{entries_of}
 use Rattle.xmi_read.specs.Targets.{path_of}
 use Rattle.xmi_read.proofs.Classified.{no_holder, holder_is}
 use Rattle.xmi_read.proofs.classifiers.by_holder.Goals as goal

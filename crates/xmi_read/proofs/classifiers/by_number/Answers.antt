@@ -1,7 +1,7 @@
 use Rattle.std.proofs.Common.{◌≡◌, ◌≤◌, length, sym, ap, ◌∙◌, arith}
 use Rattle.std.proofs.lemmas.List.{length-map}
 use Rattle.ecore_meta.specs.Valid.{number_of}
-use Rattle.xmi_read.specs.Entries.{entry_of, entries_of}
+use Rattle.ecore_outline.specs.Entries.{entry_of, entries_of}
 use Rattle.xmi_text.specs.Keys.{has_place}
 use Rattle.xmi_read.specs.Targets.{path_of}
 use Rattle.xmi_read.specs.Classifiers.{classifiers_in}

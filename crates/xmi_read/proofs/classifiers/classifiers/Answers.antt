@@ -1,8 +1,8 @@
 use Rattle.std.proofs.Common.{◌≡◌, ◌+◌, ◌∷◌, ◌++◌, map, drop, sym, ap, ◌∙◌, arith}
 use Rattle.std.proofs.lemmas.List.{drop_more}
-use Rattle.xmi_read.specs.declared.outline.Entry.{Entry as CodeEntry}
-use Rattle.xmi_read.specs.Outline.{is_package_role, is_class_role, is_enum_role}
-use Rattle.xmi_read.specs.Entries.{entry_of, entries_of}
+use Rattle.ecore_outline.specs.declared.outline.Entry.{Entry as CodeEntry}
+use Rattle.ecore_outline.specs.Outline.{is_package_role, is_class_role, is_enum_role}
+use Rattle.ecore_outline.specs.Entries.{entry_of, entries_of}
 use Rattle.xmi_read.specs.References.{first_stand}
 use Rattle.xmi_read.specs.Targets.{stand_of}
 use Rattle.xmi_read.specs.Classifiers.{classifiers_from, row_in, holders_in, alias_of}

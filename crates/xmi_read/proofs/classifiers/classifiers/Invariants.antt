@@ -1,5 +1,5 @@
 use Rattle.std.proofs.Common.{◌≡◌, ◌++◌, ◌≤◌, map, drop}
-use Rattle.xmi_read.specs.Entries.{entries_of}
+use Rattle.ecore_outline.specs.Entries.{entries_of}
 use Rattle.xmi_read.specs.Targets.{stand_of}
 use Rattle.xmi_read.specs.Classifiers.{classifiers_from, classifiers_in, row_in, holders_in, alias_of}
 use Rattle.xmi_read.specs.FileTables.{rows_of}

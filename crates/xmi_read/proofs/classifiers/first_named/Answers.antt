@@ -1,6 +1,6 @@
 use Rattle.std.proofs.Common.{sym, ap, ◌∙◌}
 use Rattle.std.specs.List.{position_from}
-use Rattle.xmi_read.specs.Entries.{entries_of}
+use Rattle.ecore_outline.specs.Entries.{entries_of}
 use Rattle.xmi_read.specs.Targets.{path_of}
 use Rattle.xmi_text.specs.Options.{earlier}
 use Rattle.xmi_read.specs.Classifiers.{classifiers_in, is_numbered}

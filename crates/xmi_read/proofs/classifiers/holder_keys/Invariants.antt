@@ -1,5 +1,5 @@
 use Rattle.std.proofs.Common.{◌≡◌, ◌++◌, drop}
-use Rattle.xmi_read.specs.Entries.{entries_of}
+use Rattle.ecore_outline.specs.Entries.{entries_of}
 use Rattle.xmi_text.specs.Keys.{keys_of}
 use Rattle.xmi_read.specs.Classifiers.{holders_from, holders_in}
 use Rattle.xmi_read.proofs.classifiers.holder_keys.Given as goal

@@ -1,7 +1,7 @@
 use Rattle.std.proofs.Common.{[], ◌∷◌, ◌++◌, map, sym, ap, ◌∙◌}
 use Rattle.std.specs.Prelude.{Bool, if◌then◌else◌}
 use Rattle.std.proofs.lemmas.List.{append-nil, map_push}
-use Rattle.xmi_read.specs.Entries.{entry_of}
+use Rattle.ecore_outline.specs.Entries.{entry_of}
 use Rattle.xmi_read.specs.Targets.{stand_of}
 use Rattle.xmi_read.specs.Classifiers.{classifier_here, row_in}
 use Rattle.xmi_read.specs.FileTables.{row_of, rows_of}

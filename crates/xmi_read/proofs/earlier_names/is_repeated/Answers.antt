@@ -1,10 +1,10 @@
 use Rattle.std.proofs.Common.{[], ◌∙◌}
 use Rattle.std.specs.Prelude.{◌-◌, ◌&&◌}
 use Rattle.std.specs.List.{list_any}
-use Rattle.xmi_read.specs.Outline.{is_classifier_role, is_enum_role, count}
-use Rattle.xmi_read.specs.Types.{is_literal_role, literals_of}
+use Rattle.ecore_outline.specs.Outline.{is_classifier_role, is_enum_role, count}
+use Rattle.ecore_outline.specs.Enumerations.{is_literal_role, literals_of}
 use Rattle.xmi_read.specs.Faults.{is_same_classifier, is_same_literal}
-use Rattle.xmi_read.specs.Entries.{entry_of}
+use Rattle.ecore_outline.specs.Entries.{entry_of}
 use Rattle.xmi_read.proofs.SeenBefore.{package_before, classifier_before, literal_before, first_of_three, second_of_three, third_of_three}
 use Rattle.xmi_read.proofs.earlier_names.is_repeated.Goals as goal
 

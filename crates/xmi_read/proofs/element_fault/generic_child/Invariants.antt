@@ -1,7 +1,7 @@
 use Rattle.std.proofs.Common.{◌≡◌, drop}
 use Rattle.std.specs.Prelude.{find}
 use Rattle.xmi_text.specs.Markup.{sub_elements}
-use Rattle.xmi_read.specs.Outline.{is_generic}
+use Rattle.ecore_outline.specs.Outline.{is_generic}
 use Rattle.xmi_read.proofs.element_fault.generic_child.Given as goal
 
 abbrev pub invariant-loop-i : goal.invariant-loop-i

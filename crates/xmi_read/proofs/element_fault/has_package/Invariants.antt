@@ -1,7 +1,7 @@
 use Rattle.std.proofs.Common.{◌≡◌, drop}
 use Rattle.std.specs.List.{list_any}
-use Rattle.xmi_read.specs.Outline.{is_package_role}
-use Rattle.xmi_read.specs.Entries.{entries_of}
+use Rattle.ecore_outline.specs.Outline.{is_package_role}
+use Rattle.ecore_outline.specs.Entries.{entries_of}
 use Rattle.xmi_read.proofs.element_fault.has_package.Given as goal
 
 abbrev pub invariant-loop-i : goal.invariant-loop-i

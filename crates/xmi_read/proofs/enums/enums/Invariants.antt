@@ -1,6 +1,6 @@
 use Rattle.std.proofs.Common.{◌≡◌, ◌++◌, drop}
 use Rattle.xmi_read.specs.Groups.{enums_in}
-use Rattle.xmi_read.specs.Entries.{entries_of}
+use Rattle.ecore_outline.specs.Entries.{entries_of}
 use Rattle.xmi_read.proofs.enums.enums.Given as goal
 
 abbrev pub invariant-loop-i : goal.invariant-loop-i

@@ -1,4 +1,4 @@
-use Rattle.xmi_read.specs.Entries.{entries_of}
+use Rattle.ecore_outline.specs.Entries.{entries_of}
 use Rattle.xmi_read.specs.Tables.{feature_row_of}
 use Rattle.xmi_read.proofs.FeatureParts.{made_is}
 use Rattle.xmi_read.proofs.features.feature_of.Goals as goal

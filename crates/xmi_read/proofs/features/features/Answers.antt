@@ -1,6 +1,6 @@
 use Rattle.std.proofs.Common.{◌≤◌, length, arith}
 use Rattle.std.proofs.lemmas.List.{length-map}
-use Rattle.xmi_read.specs.Entries.{entry_of, entries_of}
+use Rattle.ecore_outline.specs.Entries.{entry_of, entries_of}
 use Rattle.xmi_read.proofs.RowsFit.{feature_fits}
 use Rattle.xmi_read.proofs.features.features.Goals as goal
 

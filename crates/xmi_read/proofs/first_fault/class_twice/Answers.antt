@@ -1,5 +1,5 @@
 use Rattle.std.proofs.Common.{sym, ap, ◌∙◌, subst}
-use Rattle.xmi_read.specs.Entries.{entries_of}
+use Rattle.ecore_outline.specs.Entries.{entries_of}
 use Rattle.xmi_read.specs.Groups.{IsRising}
 use Rattle.xmi_read.specs.Tables.{feature_rows_of}
 use Rattle.xmi_read.specs.Walks.{LeadWithin}

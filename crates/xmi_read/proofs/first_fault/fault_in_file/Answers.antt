@@ -1,5 +1,5 @@
 use Rattle.std.proofs.Common.{length, sym, ap, ◌∙◌, arith}
-use Rattle.xmi_read.specs.Entries.{entry_of, entries_of}
+use Rattle.ecore_outline.specs.Entries.{entry_of, entries_of}
 use Rattle.xmi_read.specs.FoundFaults.{fault_in}
 use Rattle.xmi_read.proofs.Places.{class_inside, last_kind, number_same}
 use Rattle.xmi_read.proofs.first_fault.fault_in_file.Goals as goal

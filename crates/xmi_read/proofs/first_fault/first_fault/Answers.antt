@@ -1,7 +1,7 @@
 use Rattle.std.proofs.Common.{◌+◌, take, sym, ap, ◌∙◌, subst, arith}
 use Rattle.std.specs.Prelude.{Some, None}
-use Rattle.xmi_read.specs.Outline.{is_class_role, is_enum_role, is_feature_role}
-use Rattle.xmi_read.specs.Entries.{entry_of, entries_of}
+use Rattle.ecore_outline.specs.Outline.{is_class_role, is_enum_role, is_feature_role}
+use Rattle.ecore_outline.specs.Entries.{entry_of, entries_of}
 use Rattle.xmi_read.specs.Tables.{AreCounted}
 use Rattle.xmi_read.specs.Seen.{AreSeen}
 use Rattle.xmi_read.specs.FoundFaults.{fault_of, fault_in}

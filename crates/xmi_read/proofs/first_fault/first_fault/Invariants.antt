@@ -1,6 +1,6 @@
 use Rattle.std.proofs.Common.{◌≡◌, ◌≤◌, take, drop}
 use Rattle.xmi_read.specs.Faults.{fault_from, first_fault}
-use Rattle.xmi_read.specs.Entries.{entries_of}
+use Rattle.ecore_outline.specs.Entries.{entries_of}
 use Rattle.xmi_read.specs.Tables.{AreCounted}
 use Rattle.xmi_read.specs.Seen.{AreSeen}
 use Rattle.xmi_read.proofs.first_fault.first_fault.Given as goal

@@ -1,5 +1,5 @@
-use Rattle.xmi_read.specs.Outline.{is_class_role, is_enum_role, is_feature_role}
-use Rattle.xmi_read.specs.Entries.{entry_of}
+use Rattle.ecore_outline.specs.Outline.{is_class_role, is_enum_role, is_feature_role}
+use Rattle.ecore_outline.specs.Entries.{entry_of}
 use Rattle.xmi_read.proofs.Places.{next_count, next_last}
 use Rattle.xmi_read.proofs.first_fault.past.Goals as goal
 

@@ -1,5 +1,5 @@
 use Rattle.std.proofs.Common.{sym, subst}
-use Rattle.xmi_read.specs.Entries.{entries_of}
+use Rattle.ecore_outline.specs.Entries.{entries_of}
 use Rattle.xmi_read.specs.Walks.{LeadWithin}
 use Rattle.xmi_read.proofs.Supers.{number_within}
 use Rattle.xmi_read.proofs.first_fault.tables_of.Goals as goal

@@ -1,7 +1,7 @@
 use Rattle.std.proofs.Common.{sym, ap, ◌∙◌}
 use Rattle.std.specs.Prelude.{option_map}
-use Rattle.xmi_read.specs.Outline.{name_of}
-use Rattle.xmi_read.specs.Entries.{entry_of, entries_of}
+use Rattle.ecore_outline.specs.Outline.{name_of}
+use Rattle.ecore_outline.specs.Entries.{entry_of, entries_of}
 use Rattle.xmi_read.specs.Rows.{twice_seen}
 use Rattle.xmi_read.specs.Faults.{when, or_else, TwiceName}
 use Rattle.xmi_read.specs.Seen.{repeats}

@@ -1,6 +1,6 @@
 use Rattle.std.proofs.Common.{length, refl}
 use Rattle.std.proofs.lemmas.Option.{slice_get_read, slice_get_past}
-use Rattle.xmi_read.specs.Entries.{entry_of, entries_of}
+use Rattle.ecore_outline.specs.Entries.{entry_of, entries_of}
 use Rattle.xmi_read.proofs.Places.{typed_there, there_is_one}
 use Rattle.xmi_read.proofs.first_fault.type_at.Goals as goal
 

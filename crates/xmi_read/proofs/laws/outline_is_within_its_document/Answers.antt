@@ -1,4 +1,4 @@
-use Rattle.xmi_read.proofs.Sizes.{outline_within}
+use Rattle.ecore_outline.proofs.Sizes.{outline_within}
 use Rattle.xmi_read.proofs.laws.outline_is_within_its_document.Goals as goal
 
 pub returns : goal.returns

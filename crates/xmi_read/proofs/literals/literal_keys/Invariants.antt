@@ -1,5 +1,5 @@
 use Rattle.std.proofs.Common.{◌≡◌, ◌++◌, ◌≤◌, drop}
-use Rattle.xmi_read.specs.Entries.{entries_of}
+use Rattle.ecore_outline.specs.Entries.{entries_of}
 use Rattle.xmi_text.specs.Keys.{keys_of}
 use Rattle.xmi_read.specs.Literals.{literal_keys_from, literal_keys}
 use Rattle.xmi_read.proofs.literals.literal_keys.Given as goal

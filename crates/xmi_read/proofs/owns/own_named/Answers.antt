@@ -1,6 +1,6 @@
 use Rattle.std.proofs.Common.{map, sym, ap, ◌∙◌}
 use Rattle.std.specs.Prelude.{slice_get}
-use Rattle.xmi_read.specs.Entries.{entries_of}
+use Rattle.ecore_outline.specs.Entries.{entries_of}
 use Rattle.xmi_text.specs.Options.{then_}
 use Rattle.xmi_read.specs.Targets.{own_of}
 use Rattle.xmi_read.proofs.OwnRows.{own_named_is}

@@ -1,7 +1,7 @@
 use Rattle.std.proofs.Common.{◌≡◌, ◌++◌, map, sym, ap, ◌∙◌, subst}
 use Rattle.std.specs.Prelude.{true, false}
 use Rattle.std.proofs.lemmas.List.{map-append}
-use Rattle.xmi_read.specs.Entries.{entries_of}
+use Rattle.ecore_outline.specs.Entries.{entries_of}
 use Rattle.xmi_read.specs.Targets.{own_of}
 use Rattle.xmi_text.specs.Keys.{keys_of, AreFirsts}
 use Rattle.xmi_read.specs.Owns.{owns_from, owns_of, row_key, row_own}

@@ -1,5 +1,5 @@
 use Rattle.std.proofs.Common.{◌≡◌, ◌++◌, ◌≤◌, map, drop}
-use Rattle.xmi_read.specs.Entries.{entries_of}
+use Rattle.ecore_outline.specs.Entries.{entries_of}
 use Rattle.xmi_read.specs.Targets.{own_of}
 use Rattle.xmi_text.specs.Keys.{keys_of}
 use Rattle.xmi_read.specs.Owns.{owns_from, row_key, row_own}

@@ -1,7 +1,7 @@
 use Rattle.std.proofs.Common.{◌≡◌, ◌++◌, map, drop}
 use Rattle.std.specs.List.{filter_map}
 use Rattle.xmi_read.specs.References.{class_named}
-use Rattle.xmi_read.specs.Entries.{entries_of}
+use Rattle.ecore_outline.specs.Entries.{entries_of}
 use Rattle.xmi_read.proofs.reach.numbers_of.Given as goal
 
 -- what is to come from the words that are left completes the numbers

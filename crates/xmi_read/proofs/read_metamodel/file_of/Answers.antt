@@ -1,6 +1,6 @@
 use Rattle.std.proofs.Common.{sym, ap, ◌∙◌, subst}
-use Rattle.xmi_read.specs.Entries.{entries_of}
-use Rattle.xmi_read.specs.Texts.{AreTexts}
+use Rattle.ecore_outline.specs.Entries.{entries_of}
+use Rattle.ecore_outline.specs.Texts.{AreTexts}
 use Rattle.xmi_read.proofs.read_metamodel.file_of.Goals as goal
 
 pub returns-clause-outline : goal.returns-clause-outline

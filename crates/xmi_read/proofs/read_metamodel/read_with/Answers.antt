@@ -1,9 +1,9 @@
 use Rattle.std.proofs.Common.{◌≡◌, sym, ap, ◌∙◌, subst}
 use Rattle.ecore_meta.specs.Valid.{IsMetamodel}
-use Rattle.xmi_read.specs.Outline.{outline}
+use Rattle.ecore_outline.specs.Outline.{outline}
 use Rattle.xmi_read.specs.Faults.{first_fault}
 use Rattle.xmi_read.specs.Parts.{parts_of}
-use Rattle.xmi_read.specs.Entries.{entries_of}
+use Rattle.ecore_outline.specs.Entries.{entries_of}
 use Rattle.xmi_read.specs.FoundFaults.{fault_of, told}
 use Rattle.xmi_read.proofs.FaultTexts.{value_is_xml}
 use Rattle.xmi_read.proofs.Valid.{outline_valid}

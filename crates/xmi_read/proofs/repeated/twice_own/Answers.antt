@@ -2,7 +2,7 @@ use Rattle.std.proofs.Common.{◌≡◌, ◌+◌, ◌∷◌, map, drop, sym, ap,
 use Rattle.std.specs.Prelude.{Bool, Some, if◌then◌else◌}
 use Rattle.std.proofs.lemmas.Bool.{eq-eqb, ne_eqb}
 use Rattle.std.proofs.lemmas.List.{drop_more}
-use Rattle.xmi_read.specs.Outline.{name_of}
+use Rattle.ecore_outline.specs.Outline.{name_of}
 use Rattle.xmi_text.specs.Inheriting.{conforms}
 use Rattle.xmi_read.specs.Rows.{twice_from}
 use Rattle.xmi_read.specs.Groups.{past_run}

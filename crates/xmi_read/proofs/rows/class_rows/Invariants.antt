@@ -1,6 +1,6 @@
 use Rattle.std.proofs.Common.{◌≡◌, ◌++◌, ◌≤◌, drop}
 use Rattle.xmi_read.specs.Rows.{class_rows, class_rows_from}
-use Rattle.xmi_read.specs.Entries.{entries_of}
+use Rattle.ecore_outline.specs.Entries.{entries_of}
 use Rattle.xmi_read.specs.Tables.{class_rows_of}
 use Rattle.xmi_read.proofs.rows.class_rows.Given as goal
 

@@ -1,6 +1,6 @@
 use Rattle.std.proofs.Common.{◌≡◌, ◌++◌, ◌≤◌, drop}
 use Rattle.xmi_read.specs.Rows.{feature_rows, feature_rows_from}
-use Rattle.xmi_read.specs.Entries.{entries_of}
+use Rattle.ecore_outline.specs.Entries.{entries_of}
 use Rattle.xmi_read.specs.Tables.{feature_rows_of}
 use Rattle.xmi_read.proofs.rows.feature_rows.Given as goal
 

@@ -1,6 +1,6 @@
 use Rattle.std.proofs.Common.{◌≡◌, ◌++◌, ◌≤◌, drop}
 use Rattle.xmi_read.specs.Parts.{skipped_from}
-use Rattle.xmi_read.specs.Entries.{entries_of}
+use Rattle.ecore_outline.specs.Entries.{entries_of}
 use Rattle.xmi_read.proofs.skipped.skipped.Given as goal
 
 abbrev pub invariant-loop-i : goal.invariant-loop-i

@@ -1,7 +1,7 @@
 use Rattle.std.proofs.Common.{◌≡◌, drop, map}
 use Rattle.std.specs.Prelude.{find, is_none}
 use Rattle.xmi_read.specs.References.{class_named}
-use Rattle.xmi_read.specs.Entries.{entries_of}
+use Rattle.ecore_outline.specs.Entries.{entries_of}
 use Rattle.xmi_read.proofs.type_fault.no_class.Given as goal
 
 abbrev pub invariant-loop-i : goal.invariant-loop-i

@@ -1,7 +1,7 @@
 use Rattle.std.proofs.Common.{◌≢◌, length, map, sym, ap, ◌∙◌, arith}
 use borrow.Author.Tests.{ltb-true, ltb-false}
 use Rattle.xmi_text.specs.Scopes.{scope_of}
-use Rattle.xmi_read.specs.Entries.{entries_of}
+use Rattle.ecore_outline.specs.Entries.{entries_of}
 use Rattle.xmi_read.specs.Rows.{attribute_typed}
 use Rattle.xmi_read.proofs.WordCases.{one, attribute_other}
 use Rattle.xmi_read.proofs.typed.attribute_typed.Goals as goal

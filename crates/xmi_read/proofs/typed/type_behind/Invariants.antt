@@ -1,6 +1,6 @@
 use Rattle.std.proofs.Common.{◌≡◌, drop}
 use Rattle.xmi_read.specs.Rows.{type_behind}
-use Rattle.xmi_read.specs.Entries.{entries_of}
+use Rattle.ecore_outline.specs.Entries.{entries_of}
 use Rattle.xmi_read.proofs.typed.type_behind.Given as goal
 
 abbrev pub invariant-loop-i : goal.invariant-loop-i

@@ -1,0 +1,5 @@
+pub mod Outline
+pub mod Entries
+pub mod Texts
+pub mod Enumerations
+pub mod Forms

@@ -1,6 +1,0 @@
-use Rattle.std.proofs.Common.{drop}
-use Rattle.xmi_read.specs.Texts.{AreAttributeTexts}
-use Rattle.xmi_read.proofs.known_text.know_attributes.Given as goal
-
-abbrev pub invariant-loop-i : goal.invariant-loop-i
-invariant-loop-i l = AreAttributeTexts (drop l.i l.attributes) → AreAttributeTexts l.attributes
