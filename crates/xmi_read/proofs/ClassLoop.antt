@@ -8,7 +8,7 @@ use Rattle.ecore_meta.specs.declared.parts.Class.{Class}
 use Rattle.xmi_read.specs.declared.rows.ClassRow.{ClassRow as CodeClassRow}
 use Rattle.xmi_read.specs.declared.rows.FeatureRow.{FeatureRow as CodeFeatureRow}
 use Rattle.ecore_outline.specs.Outline.{Entry}
-use Rattle.xmi_read.specs.References.{class_named}
+use Rattle.ecore_names.specs.References.{class_named}
 use Rattle.xmi_read.specs.Rows.{ClassRow, class_rows, super_numbers, FeatureRow, feature_rows}
 use Rattle.xmi_read.specs.Parts.{own_of, class_of, classes_from}
 use Rattle.xmi_read.specs.Groups.{own_run, IsRising}

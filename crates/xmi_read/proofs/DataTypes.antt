@@ -16,9 +16,9 @@ use Rattle.xmi_text.specs.Markup.{Site, given, or_empty, words_of, ecore_space}
 use Rattle.ecore_outline.specs.declared.outline.Role.TheVariants.{Attribute, Reference}
 use Rattle.ecore_outline.specs.Outline.{Entry, entry, is_enum_role, count}
 use Rattle.xmi_text.specs.Fragments.{names_file, file_of, behind_hash, behind_slashes}
-use Rattle.xmi_read.specs.References.{Target, OfClass, OfEnum, OfData, local_target, class_named}
+use Rattle.ecore_names.specs.References.{Target, OfClass, OfEnum, OfData, local_target, class_named}
 use Rattle.ecore_outline.specs.Enumerations.{literal_text, literals_of, first_text}
-use Rattle.xmi_read.specs.Types.{DataType, plain, with_default, typed_by, ecore_types, instance_types, named_types, own_type, foreign_type, type_of_target, local_type}
+use Rattle.ecore_names.specs.Types.{DataType, plain, with_default, typed_by, ecore_types, instance_types, named_types, own_type, foreign_type, type_of_target, local_type}
 use Rattle.xmi_read.specs.Rows.{Typed, ByData, ByClass, Foreign, Untyped, or_foreign, foreign_word, by_data, by_class, is_foreign_data, attribute_typed, reference_typed, attribute_child_typed, reference_child_typed, text_typed, child_typed, type_behind, typed}
 use Rattle.xmi_read.specs.Parts.{literal_of}
 use Rattle.xmi_text.specs.Numbers.{is_digits, is_int_text}
@@ -27,7 +27,7 @@ use Rattle.xmi_text.proofs.Lists.{map-map, to_map}
 use Rattle.xmi_read.proofs.Naming.{differ}
 use Rattle.ecore_outline.proofs.Splits.{rows, row_at}
 use Rattle.xmi_read.proofs.Tables.{tables, enum_made, class_count, enum_count}
-use Rattle.xmi_read.proofs.Targets.{then_some, local_within, class_named_within}
+use Rattle.ecore_names.proofs.Targets.{then_some, local_within, class_named_within}
 use Rattle.xmi_text.proofs.Tests.{true-false, false-true}
 
 -- ## Texts of numbers

@@ -11,8 +11,8 @@ use Rattle.ecore_meta.specs.Valid.{IsTextOf, IsKindWithin, is_reference}
 use Rattle.xmi_text.specs.Markup.{Site, is_called, given}
 use Rattle.ecore_outline.specs.declared.outline.Role.TheVariants.{Attribute as AttributeRole, Reference as ReferenceRole}
 use Rattle.ecore_outline.specs.Outline.{Entry, entry, is_feature_role, count}
-use Rattle.xmi_read.specs.References.{Own, Kept, Skips, feature_named}
-use Rattle.xmi_read.specs.Types.{DataType}
+use Rattle.ecore_names.specs.References.{Own, Kept, Skips, feature_named}
+use Rattle.ecore_names.specs.Types.{DataType}
 use Rattle.xmi_read.specs.Rows.{Typed, ByData, ByClass, Foreign, Untyped, typed}
 use Rattle.xmi_read.specs.Parts.{kept, opposite_of, kind_of, default_of}
 use Rattle.xmi_text.specs.Numbers.{is_upper}
@@ -23,7 +23,7 @@ use Rattle.xmi_read.proofs.Roles.{features}
 use Rattle.xmi_read.proofs.Sound.{Fine, fine, some-none}
 use Rattle.ecore_outline.proofs.Splits.{all_rows, length-rows, count-here}
 use Rattle.xmi_read.proofs.Tables.{tables, feature_row, feature_made}
-use Rattle.xmi_read.proofs.Targets.{feature_named_at}
+use Rattle.ecore_names.proofs.Targets.{feature_named_at}
 use Rattle.xmi_text.proofs.Tests.{true-false, false-true}
 
 module _ (file : List Entry) where

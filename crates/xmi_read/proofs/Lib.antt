@@ -9,7 +9,6 @@ pub mod Seen
 pub mod Sound
 pub mod Supers
 pub mod Tables
-pub mod Targets
 pub mod Twice
 pub mod TypesKnown
 pub mod Valid
@@ -26,8 +25,5 @@ pub mod Reaching
 pub mod Places
 pub mod SeenNames
 pub mod PartsMade
-pub mod OwnRows
-pub mod LiteralKeys
-pub mod Classified
 pub mod SeenBefore
 pub mod SeenRows

@@ -12,7 +12,7 @@ use Rattle.ecore_meta.specs.Valid.{is_reference, opposite_of, AreOpposite}
 use Rattle.xmi_text.specs.Markup.{Site, given}
 use Rattle.ecore_outline.specs.declared.outline.Role.TheVariants.{Attribute, Reference}
 use Rattle.ecore_outline.specs.Outline.{Entry, entry, is_feature_role, count, name_of}
-use Rattle.xmi_read.specs.References.{Own, Kept, Skips, feature_named}
+use Rattle.ecore_names.specs.References.{Own, Kept, Skips, feature_named}
 use Rattle.xmi_read.specs.Rows.{FeatureRow, Typed, ByData, ByClass, Foreign, Untyped, typed, feature_rows}
 use Rattle.xmi_read.specs.Parts.{class_no, feature_no, kept, kind_of, feature_of, opposite_of as opposite_in}
 use Rattle.xmi_read.specs.Faults.{first_fault, BadOpposite, when, typed_fault, is_reference_role, is_contained, is_this, fit_both, fit, is_opposite, is_bad_end, is_bad_opposite}
@@ -21,7 +21,7 @@ use Rattle.xmi_read.proofs.Roles.{features, references}
 use Rattle.xmi_read.proofs.Sound.{fine, not_when, some-none}
 use Rattle.ecore_outline.proofs.Splits.{rows, row_at, row_here}
 use Rattle.xmi_read.proofs.Tables.{tables, feature_row, feature_made, the_features}
-use Rattle.xmi_read.proofs.Targets.{KeptAt, feature_named_at}
+use Rattle.ecore_names.proofs.Targets.{KeptAt, feature_named_at}
 use Rattle.xmi_read.proofs.TypesKnown.{type_known}
 use Rattle.xmi_text.proofs.Tests.{true-false, false-true}
 

@@ -10,7 +10,7 @@ use Rattle.ecore_meta.specs.Valid.{IsKindWithin}
 use Rattle.ecore_outline.specs.declared.outline.Role.{Role}
 use Rattle.ecore_outline.specs.declared.outline.Role.TheVariants.{Attribute, Reference}
 use Rattle.ecore_outline.specs.Outline.{Entry, entry, is_package_role, is_class_role, is_enum_role, is_feature_role, count}
-use Rattle.xmi_read.specs.References.{class_named, feature_named, Kept}
+use Rattle.ecore_names.specs.References.{class_named, feature_named, Kept}
 use Rattle.xmi_read.specs.Rows.{Typed, ByData, ByClass, Foreign, Untyped, typed, ClassRow, class_rows, FeatureRow, feature_rows}
 use Rattle.xmi_read.specs.Sizes.{IsSmallKind, IsSmallType}
 use Rattle.xmi_read.specs.declared.rows.ClassRow.{ClassRow as CodeClassRow}
@@ -23,7 +23,7 @@ use Rattle.xmi_text.proofs.Lists.{get_or_map}
 use Rattle.xmi_read.proofs.Roles.{features}
 use Rattle.ecore_outline.proofs.Splits.{all_rows, length-rows}
 use Rattle.xmi_read.proofs.Tables.{tables, class_row, feature_row, the_classes, the_features, class_count, enum_count}
-use Rattle.xmi_read.proofs.Targets.{class_named_within, feature_named_at}
+use Rattle.ecore_names.proofs.Targets.{class_named_within, feature_named_at}
 use Rattle.xmi_read.proofs.TextsOf.{typed_default}
 
 pub count_within : (of : Role → Bool) (es : List Entry) → count of es ≤ length es

@@ -8,7 +8,7 @@ use Rattle.xmi_text.specs.Markup.{site, ecore_space}
 use Rattle.ecore_outline.specs.declared.outline.Role.{Role}
 use Rattle.ecore_outline.specs.declared.outline.Role.TheVariants.{Package, Class, Enum as EnumRole, Literal, Attribute as AttributeRole, Reference, SkippedReference, TypeOf, SubPackage}
 use Rattle.ecore_outline.specs.Outline.{Entry, entry}
-use Rattle.xmi_read.specs.Types.{ecore_types}
+use Rattle.ecore_names.specs.Types.{ecore_types}
 use Rattle.xmi_read.specs.Parts.{class_no, feature_no, parts_of}
 use Rattle.xmi_read.specs.Faults.{Kind, Fault, first_fault, NotEcore, IsSubPackage, Generic, NoName, TwiceName, OtherFile, NoType, SuperCycle, BadOpposite, BadNumber}
 

@@ -15,7 +15,7 @@ use Rattle.ecore_outline.specs.Forms.{uri_of, prefix_of}
 use Rattle.xmi_read.specs.Faults.{Fault, TwiceName, when, or_else, is_same_package, is_same_classifier, is_same_literal, twice_fault}
 use Rattle.xmi_text.specs.Keys.{is_key}
 use Rattle.xmi_read.specs.Seen.{has_key, AreSeen, repeats}
-use Rattle.xmi_read.proofs.OwnRows.{same_suc, zero_suc}
+use Rattle.ecore_names.proofs.OwnRows.{same_suc, zero_suc}
 use Rattle.xmi_read.proofs.Roles.{classes}
 use Rattle.xmi_text.proofs.Tests.{false-true, true-false}
 

@@ -8,7 +8,7 @@ use Rattle.std.proofs.lemmas.Option.{slice_get_cases}
 use Rattle.atl_base.specs.declared.numbers.ClassId.{ClassId}
 use Rattle.ecore_meta.specs.Inheritance.{supers_of, Conforms, itself, by_super, IsAcyclic}
 use Rattle.ecore_outline.specs.Outline.{Entry, is_class_role, count}
-use Rattle.xmi_read.specs.References.{class_named}
+use Rattle.ecore_names.specs.References.{class_named}
 use Rattle.xmi_text.specs.Inheriting.{conforms, is_own_super}
 use Rattle.xmi_read.specs.Rows.{ClassRow, class_rows, super_numbers}
 use Rattle.xmi_read.specs.Parts.{class_no}
@@ -18,7 +18,7 @@ use Rattle.xmi_text.proofs.Paths.{Simple, one, further, passes, conforms_from}
 use Rattle.xmi_read.proofs.Sound.{fine}
 use Rattle.ecore_outline.proofs.Splits.{rows, RowAt, row_at, length-rows}
 use Rattle.xmi_read.proofs.Tables.{tables, class_row, class_made, map-rows, the_classes, class_count}
-use Rattle.xmi_read.proofs.Targets.{class_named_within}
+use Rattle.ecore_names.proofs.Targets.{class_named_within}
 use Rattle.xmi_text.proofs.Tests.{true-false, right_fails}
 
 module _ (file : List Entry) where

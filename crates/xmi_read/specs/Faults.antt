@@ -13,7 +13,7 @@ use Rattle.xmi_text.specs.Markup.{given, flag, is_bad_flag, has_text, sub_elemen
 use Rattle.ecore_outline.specs.declared.outline.Role.{Role}
 use Rattle.ecore_outline.specs.declared.outline.Role.TheVariants.{Around, Package, Class, Enum as EnumRole, Data, Literal, Attribute as AttributeRole, Reference, SkippedAttribute, SkippedReference, Super, TypeOf, SkippedType, SubPackage, Stray}
 use Rattle.ecore_outline.specs.Outline.{Entry, is_generic, is_package_role, is_class_role, is_enum_role, is_classifier_role, is_feature_role, count, name_of}
-use Rattle.xmi_read.specs.References.{class_named, feature_named, Own, Kept, Skips}
+use Rattle.ecore_names.specs.References.{class_named, feature_named, Own, Kept, Skips}
 use Rattle.ecore_outline.specs.Enumerations.{literals_of, literal_text}
 use Rattle.xmi_text.specs.Inheriting.{is_own_super}
 use Rattle.xmi_read.specs.Rows.{Typed, ByData, ByClass, Foreign, Untyped, typed, href, super_words, child_typed, super_numbers, twice_seen, type_behind, feature_rows, FeatureRow, foreign_word}

@@ -1,9 +1,6 @@
-pub mod References
-pub mod Types
 pub mod Rows
 pub mod Faults
 pub mod Parts
-pub mod Targets
 pub mod Answers
 pub mod DataTypes
 pub mod Tables
@@ -12,8 +9,4 @@ pub mod Texts
 pub mod Sizes
 pub mod Walks
 pub mod FoundFaults
-pub mod Owns
-pub mod Literals
-pub mod Classifiers
-pub mod FileTables
 pub mod Seen

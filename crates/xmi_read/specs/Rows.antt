@@ -9,8 +9,8 @@ use Rattle.ecore_outline.specs.declared.outline.Role.{Role}
 use Rattle.ecore_outline.specs.declared.outline.Role.TheVariants.{Super, TypeOf, Attribute, Stray}
 use Rattle.ecore_outline.specs.Outline.{Entry, is_package_role, is_class_role, is_classifier_role, is_feature_role, name_of}
 use Rattle.xmi_text.specs.Fragments.{names_file}
-use Rattle.xmi_read.specs.References.{class_named}
-use Rattle.xmi_read.specs.Types.{DataType, foreign_type, local_type}
+use Rattle.ecore_names.specs.References.{class_named}
+use Rattle.ecore_names.specs.Types.{DataType, foreign_type, local_type}
 use Rattle.xmi_text.specs.Inheriting.{conforms}
 
 abbrev pub is_super_role : Role → Bool

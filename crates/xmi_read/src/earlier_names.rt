@@ -7,7 +7,7 @@ ghost use Rattle.ecore_outline.specs.Entries.{entry_of};
 ghost use Rattle.xmi_text.specs.Keys.{is_key, key_of};
 ghost use Rattle.xmi_read.specs.Seen.{has_key, AreSeen, repeats};
 
-use crate::data_type::{is_literal, literal_text};
+use ecore_names::data_type::{is_literal, literal_text};
 use ecore_outline::form::{prefix_of, uri_of};
 use ecore_outline::outline::Entry;
 use ecore_outline::role::{is_classifier, is_package, name_of};

@@ -4,8 +4,8 @@ ghost use Rattle.ecore_outline.specs.Outline.{name_of as name_of_entry};
 ghost use Rattle.ecore_outline.specs.Entries.{entry_of, entries_of};
 ghost use Rattle.xmi_read.specs.Groups.{literal_at, literals_behind, enums_in};
 
-use crate::data_type::is_literal;
 use ecore_meta::parts::{EnumDef, Literal};
+use ecore_names::data_type::is_literal;
 use ecore_outline::outline::Entry;
 use ecore_outline::role::is_enum;
 use ecore_outline::text::{literal_text, name_text};

@@ -11,15 +11,15 @@ ghost use Rattle.xmi_read.specs.Seen.{repeats};
 
 use crate::earlier_names::{is_repeated, none_seen, note_names};
 use crate::fault::{Fault, FoundFault, Kind, element_fault, when};
-use crate::file::File;
 use crate::number_fault::number_fault;
 use crate::opposite::{is_bad_opposite, is_reference};
 use crate::reach::{is_own_super, super_numbers};
 use crate::repeated::twice_seen;
 use crate::rows::{FeatureRow, class_rows, feature_rows};
-use crate::target::one_more;
 use crate::type_fault::{class_fault, feature_type_fault, supers_fault, typed_fault};
 use crate::typed::{Typed, child_typed, href};
+use ecore_names::file::File;
+use ecore_names::target::one_more;
 use ecore_outline::outline::{Entry, Role};
 use ecore_outline::role::{is_class, is_enum, is_feature, name_of};
 use sqlite_items::Items;

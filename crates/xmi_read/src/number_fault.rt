@@ -4,14 +4,15 @@ ghost use Rattle.std.specs.Option.{option_copied};
 ghost use Rattle.xmi_read.specs.Rows.{typed as typed_in};
 ghost use Rattle.xmi_read.specs.Faults.{is_attribute_role, is_text_of as is_text_in, is_bad_default as is_bad_default_in, is_bad_number as is_bad_number_in, number_fault as number_fault_in};
 ghost use Rattle.ecore_outline.specs.Entries.{entry_of, entries_of};
-ghost use Rattle.xmi_read.specs.DataTypes.{kind_of, typed_of};
+ghost use Rattle.ecore_names.specs.DataTypes.{kind_of};
+ghost use Rattle.xmi_read.specs.DataTypes.{typed_of};
 ghost use Rattle.xmi_read.specs.FoundFaults.{fault_in};
 
-use crate::data_type::DataKind;
 use crate::fault::{Fault, Kind};
-use crate::file::File;
 use crate::typed::Typed;
 use doc_text::tree::{Attribute, Element};
+use ecore_names::data_type::DataKind;
+use ecore_names::file::File;
 use ecore_outline::outline::{Entry, Role};
 use ecore_outline::role::is_feature;
 use xmi_text::numbers::{is_int_text, is_upper};

@@ -2,16 +2,16 @@
 ghost use Rattle.std.specs.Prelude.{◌≡◌, ℕ, map, filter_map, nat_eq, ◌<◌, length, slice_index_or, [], OnOk, IfOk};
 ghost use Rattle.std.specs.List.{list_any};
 ghost use Rattle.indexmap.specs.IndexSet.{insert_all};
-ghost use Rattle.xmi_read.specs.References.{class_named as class_named_in};
+ghost use Rattle.ecore_names.specs.References.{class_named as class_named_in};
 ghost use Rattle.xmi_text.specs.Inheriting.{conforms, is_own_super as is_own_super_of};
 ghost use Rattle.xmi_read.specs.Rows.{super_numbers as super_numbers_in, class_rows as class_rows_in};
 ghost use Rattle.ecore_outline.specs.Entries.{entries_of};
 ghost use Rattle.xmi_read.specs.Tables.{class_rows_of};
 ghost use Rattle.xmi_read.specs.Walks.{AreWithin, LeadWithin};
 
-use crate::file::File;
 use crate::rows::ClassRow;
-use crate::target::class_named;
+use ecore_names::file::File;
+use ecore_names::target::class_named;
 use ecore_outline::outline::Entry;
 use indexmap::IndexSet;
 use sqlite_items::Items;

@@ -5,9 +5,9 @@ ghost use Rattle.ecore_outline.specs.Entries.{entry_of, entries_of};
 ghost use Rattle.xmi_read.specs.DataTypes.{typed_of};
 ghost use Rattle.xmi_read.specs.Tables.{class_rows_of, feature_rows_of};
 
-use crate::file::File;
-use crate::target::one_more;
 use crate::typed::{Typed, href, type_of};
+use ecore_names::file::File;
+use ecore_names::target::one_more;
 use ecore_outline::outline::{Entry, Role};
 use ecore_outline::role::{is_class, is_classifier, is_feature, is_package};
 use std::alloc::{AllocError, Global};

@@ -4,9 +4,9 @@ ghost use Rattle.ecore_outline.specs.Outline.{Entry as SomeEntry, name_of as nam
 ghost use Rattle.xmi_read.specs.Parts.{class_no, skipped_from};
 ghost use Rattle.ecore_outline.specs.Entries.{entry_of, entries_of};
 
-use crate::target::one_more;
 use atl_base::numbers::ClassId;
 use ecore_meta::parts::Skipped;
+use ecore_names::target::one_more;
 use ecore_outline::outline::Entry;
 use ecore_outline::role::{is_class, is_skipped};
 use ecore_outline::text::name_text;

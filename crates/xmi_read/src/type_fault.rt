@@ -2,7 +2,7 @@
 ghost use Rattle.std.specs.Prelude.{◌≡◌, [], ◌&&◌, map, find, is_none, is_some, None, IfOk, List, option_map, codes, if◌then◌else◌};
 ghost use Rattle.std.specs.Option.{option_copied};
 ghost use Rattle.xmi_text.specs.Markup.{given as given_of};
-ghost use Rattle.xmi_read.specs.References.{class_named as class_named_in};
+ghost use Rattle.ecore_names.specs.References.{class_named as class_named_in};
 ghost use Rattle.xmi_read.specs.Rows.{super_words, type_behind as type_behind_of, foreign_word as foreign_word_of};
 ghost use Rattle.xmi_read.specs.Faults.{typed_fault as typed_fault_of, supers_fault as supers_fault_in};
 ghost use Rattle.ecore_outline.specs.Entries.{entry_of, entries_of};
@@ -10,9 +10,9 @@ ghost use Rattle.xmi_read.specs.DataTypes.{typed_of};
 ghost use Rattle.xmi_read.specs.FoundFaults.{fault_in};
 
 use crate::fault::{Fault, Kind};
-use crate::file::File;
-use crate::target::class_named;
 use crate::typed::{Typed, type_behind};
+use ecore_names::file::File;
+use ecore_names::target::class_named;
 use ecore_outline::outline::Entry;
 use std::alloc::{AllocError, Global};
 use xmi_text::markup::{given, given_text};

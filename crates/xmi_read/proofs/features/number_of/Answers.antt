@@ -2,7 +2,7 @@ use Rattle.std.proofs.Common.{◌≤◌, length, ap, ◌∙◌, arith}
 use Rattle.std.specs.Prelude.{Some}
 use Rattle.std.proofs.lemmas.List.{length-map}
 use Rattle.ecore_outline.specs.Entries.{entry_of, entries_of}
-use Rattle.xmi_read.specs.Targets.{own_of}
+use Rattle.ecore_names.specs.Targets.{own_of}
 use Rattle.xmi_read.proofs.RowsFit.{named_small}
 use Rattle.xmi_read.proofs.features.number_of.Goals as goal
 

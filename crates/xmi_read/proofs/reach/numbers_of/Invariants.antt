@@ -1,6 +1,6 @@
 use Rattle.std.proofs.Common.{◌≡◌, ◌++◌, map, drop}
 use Rattle.std.specs.List.{filter_map}
-use Rattle.xmi_read.specs.References.{class_named}
+use Rattle.ecore_names.specs.References.{class_named}
 use Rattle.ecore_outline.specs.Entries.{entries_of}
 use Rattle.xmi_read.proofs.reach.numbers_of.Given as goal
 

@@ -1,6 +1,6 @@
 use Rattle.std.proofs.Common.{◌≡◌, drop, map}
 use Rattle.std.specs.Prelude.{find, is_none}
-use Rattle.xmi_read.specs.References.{class_named}
+use Rattle.ecore_names.specs.References.{class_named}
 use Rattle.ecore_outline.specs.Entries.{entries_of}
 use Rattle.xmi_read.proofs.type_fault.no_class.Given as goal
 

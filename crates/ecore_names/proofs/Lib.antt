@@ -1,0 +1,4 @@
+pub mod Targets
+pub mod OwnRows
+pub mod LiteralKeys
+pub mod Classified

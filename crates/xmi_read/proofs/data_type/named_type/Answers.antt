@@ -1,7 +1,0 @@
-use Rattle.std.proofs.Common.{[], drop}
-use Rattle.xmi_read.specs.Types.{named_types}
-use Rattle.xmi_read.proofs.data_type.named_type.Goals as goal
-
-pub returns : goal.returns
-unfolding named_types
-returns c = c.by_row.ensures (drop 1 named_types) (c.by_row-found-2.ensures (drop 2 named_types) (c.by_row-found.ensures [] c.plain-found.ensures))
