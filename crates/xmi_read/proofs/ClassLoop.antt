@@ -5,17 +5,19 @@ use Rattle.std.proofs.Math.Seq.{drop-nil}
 use Rattle.std.proofs.lemmas.List.{length-map, drop_more, drop-map, length-drop}
 use Rattle.atl_base.specs.declared.numbers.FeatId.{FeatId}
 use Rattle.ecore_meta.specs.declared.parts.Class.{Class}
-use Rattle.xmi_read.specs.declared.rows.ClassRow.{ClassRow as CodeClassRow}
-use Rattle.xmi_read.specs.declared.rows.FeatureRow.{FeatureRow as CodeFeatureRow}
+use Rattle.ecore_rows.specs.declared.rows.ClassRow.{ClassRow as CodeClassRow}
+use Rattle.ecore_rows.specs.declared.rows.FeatureRow.{FeatureRow as CodeFeatureRow}
 use Rattle.ecore_outline.specs.Outline.{Entry}
 use Rattle.ecore_names.specs.References.{class_named}
-use Rattle.xmi_read.specs.Rows.{ClassRow, class_rows, super_numbers, FeatureRow, feature_rows}
+use Rattle.ecore_rows.specs.Rows.{ClassRow, class_rows, super_numbers, FeatureRow, feature_rows}
 use Rattle.xmi_read.specs.Parts.{own_of, class_of, classes_from}
-use Rattle.xmi_read.specs.Groups.{own_run, IsRising}
-use Rattle.xmi_read.specs.Tables.{class_row_of, class_rows_of, feature_row_of, feature_rows_of}
+use Rattle.ecore_rows.specs.Runs.{IsRising}
+use Rattle.xmi_read.specs.Groups.{own_run}
+use Rattle.ecore_rows.specs.CodeRows.{class_row_of, class_rows_of, feature_row_of, feature_rows_of}
 use Rattle.xmi_read.proofs.ClassParts.{made, made_is, own_run_length}
 use Rattle.xmi_text.proofs.Lists.{get_or_map}
-use Rattle.xmi_read.proofs.Runs.{features_rise, run_is, rise_past, own_past}
+use Rattle.ecore_rows.proofs.Rising.{features_rise}
+use Rattle.xmi_read.proofs.Runs.{run_is, rise_past, own_past}
 
 drop_drop : {X : Type 0} (m b : ℕ) (xs : List X) → drop m (drop b xs) ≡ drop (b + m) xs
 drop_drop m zero xs =

@@ -6,7 +6,7 @@ use Rattle.ecore_meta.specs.declared.parts.Class.{Class}
 use Rattle.xmi_text.specs.Markup.{flag}
 use Rattle.ecore_outline.specs.Outline.{Entry, name_of}
 use Rattle.ecore_names.specs.References.{class_named}
-use Rattle.xmi_read.specs.Rows.{ClassRow, FeatureRow, feature_rows}
+use Rattle.ecore_rows.specs.Rows.{ClassRow, FeatureRow, feature_rows}
 use Rattle.xmi_read.specs.Parts.{class_no, feature_no, class_of, own_of}
 use Rattle.xmi_read.specs.Groups.{own_run}
 

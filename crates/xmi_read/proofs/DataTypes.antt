@@ -19,7 +19,7 @@ use Rattle.xmi_text.specs.Fragments.{names_file, file_of, behind_hash, behind_sl
 use Rattle.ecore_names.specs.References.{Target, OfClass, OfEnum, OfData, local_target, class_named}
 use Rattle.ecore_outline.specs.Enumerations.{literal_text, literals_of, first_text}
 use Rattle.ecore_names.specs.Types.{DataType, plain, with_default, typed_by, ecore_types, instance_types, named_types, own_type, foreign_type, type_of_target, local_type}
-use Rattle.xmi_read.specs.Rows.{Typed, ByData, ByClass, Foreign, Untyped, or_foreign, foreign_word, by_data, by_class, is_foreign_data, attribute_typed, reference_typed, attribute_child_typed, reference_child_typed, text_typed, child_typed, type_behind, typed}
+use Rattle.ecore_rows.specs.Rows.{Typed, ByData, ByClass, Foreign, Untyped, or_foreign, foreign_word, by_data, by_class, is_foreign_data, attribute_typed, reference_typed, attribute_child_typed, reference_child_typed, text_typed, child_typed, type_behind, typed}
 use Rattle.xmi_read.specs.Parts.{literal_of}
 use Rattle.xmi_text.specs.Numbers.{is_digits, is_int_text}
 use Rattle.xmi_read.specs.Faults.{is_text_of}

@@ -13,7 +13,7 @@ use Rattle.ecore_outline.specs.declared.outline.Role.TheVariants.{Attribute as A
 use Rattle.ecore_outline.specs.Outline.{Entry, entry, is_feature_role, count}
 use Rattle.ecore_names.specs.References.{Own, Kept, Skips, feature_named}
 use Rattle.ecore_names.specs.Types.{DataType}
-use Rattle.xmi_read.specs.Rows.{Typed, ByData, ByClass, Foreign, Untyped, typed}
+use Rattle.ecore_rows.specs.Rows.{Typed, ByData, ByClass, Foreign, Untyped, typed}
 use Rattle.xmi_read.specs.Parts.{kept, opposite_of, kind_of, default_of}
 use Rattle.xmi_text.specs.Numbers.{is_upper}
 use Rattle.xmi_read.specs.Faults.{Fault, first_fault, BadNumber, is_text_of, is_bad_default, is_bad_number, number_fault}
@@ -22,7 +22,8 @@ use Rattle.xmi_text.proofs.Lists.{found_passes, found_fails}
 use Rattle.xmi_read.proofs.Roles.{features}
 use Rattle.xmi_read.proofs.Sound.{Fine, fine, some-none}
 use Rattle.ecore_outline.proofs.Splits.{all_rows, length-rows, count-here}
-use Rattle.xmi_read.proofs.Tables.{tables, feature_row, feature_made}
+use Rattle.ecore_rows.proofs.RowLists.{feature_row}
+use Rattle.xmi_read.proofs.Tables.{tables, feature_made}
 use Rattle.ecore_names.proofs.Targets.{feature_named_at}
 use Rattle.xmi_text.proofs.Tests.{true-false, false-true}
 

@@ -6,7 +6,7 @@ use Rattle.ecore_meta.specs.declared.parts.FeatKind.{FeatKind}
 use Rattle.ecore_meta.specs.declared.parts.Feature.{Feature}
 use Rattle.xmi_text.specs.Markup.{given, flag}
 use Rattle.ecore_outline.specs.Outline.{Entry, name_of}
-use Rattle.xmi_read.specs.Rows.{FeatureRow}
+use Rattle.ecore_rows.specs.Rows.{FeatureRow}
 use Rattle.xmi_read.specs.Parts.{class_no, kind_of, is_unique, default_of, feature_of}
 use Rattle.xmi_text.specs.Numbers.{is_many_upper}
 use Rattle.xmi_read.specs.Faults.{is_attribute_role}

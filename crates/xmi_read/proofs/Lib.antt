@@ -12,7 +12,6 @@ pub mod Tables
 pub mod Twice
 pub mod TypesKnown
 pub mod Valid
-pub mod WordCases
 pub mod Groups
 pub mod Runs
 pub mod TextsOf
@@ -21,9 +20,6 @@ pub mod RowsFit
 pub mod ClassParts
 pub mod FeatureParts
 pub mod ClassLoop
-pub mod Reaching
 pub mod Places
-pub mod SeenNames
 pub mod PartsMade
 pub mod SeenBefore
-pub mod SeenRows

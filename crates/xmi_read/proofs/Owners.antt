@@ -13,12 +13,13 @@ use Rattle.ecore_meta.specs.Inheritance.{own_of}
 use Rattle.ecore_meta.specs.Valid.{AllDiffer, owner_of}
 use Rattle.ecore_outline.specs.declared.outline.Role.{Role}
 use Rattle.ecore_outline.specs.Outline.{Entry, is_package_role, is_class_role, is_feature_role, is_skipped_role, count}
-use Rattle.xmi_read.specs.Rows.{FeatureRow, feature_rows}
+use Rattle.ecore_rows.specs.Rows.{FeatureRow, feature_rows}
 use Rattle.xmi_read.specs.Parts.{class_no, feature_no, feature_of, own_of as own_from}
 use Rattle.ecore_outline.proofs.Behind.{Behind, is_member_role, some_before}
 use Rattle.xmi_text.proofs.Lists.{get_of_map, pairs_cons}
 use Rattle.ecore_outline.proofs.Splits.{row_at, all_rows, length-rows, count-append}
-use Rattle.xmi_read.proofs.Tables.{tables, package_made, class_made, feature_row, feature_made, skipped_made, the_features, map-rows}
+use Rattle.ecore_rows.proofs.RowLists.{feature_row, the_features, map-rows}
+use Rattle.xmi_read.proofs.Tables.{tables, package_made, class_made, feature_made, skipped_made}
 
 -- the number before the next one, where there is one
 below : (of needs : Role → Bool) (file b : List Entry) (e : Entry) (h : List Entry) → Behind of needs false file → file ≡ b ++ (e ∷ h) → needs e.role ≡ true → count of b - 1 < count of file

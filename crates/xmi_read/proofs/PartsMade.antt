@@ -7,7 +7,7 @@ use Rattle.ecore_meta.specs.declared.parts.Package.{Package}
 use Rattle.ecore_meta.specs.declared.parts.Parts.{Parts}
 use Rattle.ecore_meta.specs.declared.parts.Skipped.{Skipped}
 use Rattle.ecore_outline.specs.Outline.{Entry}
-use Rattle.xmi_read.specs.Rows.{class_rows, feature_rows}
+use Rattle.ecore_rows.specs.Rows.{class_rows, feature_rows}
 use Rattle.xmi_read.specs.Parts.{classes_from, feature_of, skipped_from, parts_of}
 use Rattle.xmi_read.specs.Groups.{packages_in, enums_in}
 use Rattle.xmi_read.proofs.Groups.{packages_are, enums_grouped}

@@ -8,27 +8,26 @@ use Rattle.atl_base.specs.declared.place.Place.{Place}
 use Rattle.doc_text.specs.declared.tree.Attribute.{Attribute}
 use Rattle.doc_text.specs.declared.tree.Element.{Element}
 use Rattle.ecore_outline.specs.declared.outline.Entry.{Entry as CodeEntry}
-use Rattle.xmi_read.specs.declared.rows.FeatureRow.{FeatureRow as CodeFeatureRow}
+use Rattle.ecore_rows.specs.declared.rows.FeatureRow.{FeatureRow as CodeFeatureRow}
 use Rattle.ecore_outline.specs.Entries.{entry_of, entries_of}
-use Rattle.xmi_read.specs.DataTypes.{typed_of}
-use Rattle.xmi_read.specs.Tables.{feature_row_of, feature_rows_of}
+use Rattle.ecore_rows.specs.CodeRows.{typed_of, feature_row_of, feature_rows_of}
 use Rattle.ecore_outline.specs.declared.outline.Role.{Role}
 use Rattle.ecore_outline.specs.declared.outline.Role.TheVariants.{Attribute as AttributeRole, Stray}
 use Rattle.ecore_outline.specs.Outline.{Entry, is_class_role, is_feature_role, count}
-use Rattle.xmi_read.specs.Rows.{Typed, typed, super_numbers, feature_rows}
+use Rattle.ecore_rows.specs.Rows.{Typed, typed, super_numbers, feature_rows}
 use Rattle.xmi_text.specs.Numbers.{is_upper}
 use Rattle.xmi_read.specs.Faults.{Fault, or_else, is_attribute_role, is_bad_default, is_bad_number, number_fault, last_feature, fault_at, fault_from, BadNumber}
 use Rattle.xmi_text.proofs.Lists.{get_of_map}
 use Rattle.ecore_outline.proofs.Splits.{count-here, row_here, rows as rows_of}
-use Rattle.xmi_read.proofs.Supers.{super_count}
-use Rattle.xmi_read.proofs.Tables.{count-next, feature_row, the_features, class_count}
+use Rattle.ecore_rows.proofs.SuperNumbers.{super_count}
+use Rattle.ecore_rows.proofs.RowLists.{count-next, feature_row, the_features}
 use Rattle.xmi_text.proofs.Tests.{false-true}
 
 -- ## The tables
 
 pub class_inside : (file before : List Entry) (e : Entry) (behind : List Entry) → file ≡ before ++ (e ∷ behind) → is_class_role e.role ≡ true → count is_class_role before < length (super_numbers file)
 class_inside file before e behind w r =
-    let all : length (super_numbers file) ≡ count is_class_role file = super_count file ∙ class_count file in
+    let all : length (super_numbers file) ≡ count is_class_role file = super_count file in
     let here : count is_class_role file ≡ suc (count is_class_role before + count is_class_role behind) = ap (count is_class_role) w ∙ count-here is_class_role before e behind r in
     omega arith
 

@@ -6,7 +6,7 @@ use Rattle.ecore_outline.specs.declared.outline.Role.{Role}
 use Rattle.ecore_outline.specs.declared.outline.Role.TheVariants.{Package, Class, Enum, Literal, Attribute, Reference, TypeOf}
 use Rattle.ecore_outline.specs.Outline.{Entry, entry, is_package_role, is_class_role, is_enum_role, is_feature_role}
 use Rattle.ecore_outline.specs.Enumerations.{is_literal_role}
-use Rattle.xmi_read.specs.Rows.{is_type_role}
+use Rattle.ecore_rows.specs.Rows.{is_type_role}
 use Rattle.xmi_read.specs.Faults.{is_reference_role}
 use Rattle.xmi_text.proofs.Tests.{false-true}
 

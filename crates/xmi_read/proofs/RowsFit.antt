@@ -11,18 +11,19 @@ use Rattle.ecore_outline.specs.declared.outline.Role.{Role}
 use Rattle.ecore_outline.specs.declared.outline.Role.TheVariants.{Attribute, Reference}
 use Rattle.ecore_outline.specs.Outline.{Entry, entry, is_package_role, is_class_role, is_enum_role, is_feature_role, count}
 use Rattle.ecore_names.specs.References.{class_named, feature_named, Kept}
-use Rattle.xmi_read.specs.Rows.{Typed, ByData, ByClass, Foreign, Untyped, typed, ClassRow, class_rows, FeatureRow, feature_rows}
+use Rattle.ecore_rows.specs.Rows.{Typed, ByData, ByClass, Foreign, Untyped, typed, ClassRow, class_rows, FeatureRow, feature_rows}
 use Rattle.xmi_read.specs.Sizes.{IsSmallKind, IsSmallType}
-use Rattle.xmi_read.specs.declared.rows.ClassRow.{ClassRow as CodeClassRow}
-use Rattle.xmi_read.specs.declared.rows.FeatureRow.{FeatureRow as CodeFeatureRow}
-use Rattle.xmi_read.specs.Tables.{class_row_of, class_rows_of, feature_row_of, feature_rows_of}
+use Rattle.ecore_rows.specs.declared.rows.ClassRow.{ClassRow as CodeClassRow}
+use Rattle.ecore_rows.specs.declared.rows.FeatureRow.{FeatureRow as CodeFeatureRow}
+use Rattle.ecore_rows.specs.CodeRows.{class_row_of, class_rows_of, feature_row_of, feature_rows_of}
 use Rattle.ecore_outline.specs.Texts.{AreTexts}
 use Rattle.xmi_read.specs.Texts.{HasTextDefault}
 use Rattle.xmi_read.proofs.DataTypes.{AttributeFits, ReferenceFits, attribute_fits, reference_fits}
 use Rattle.xmi_text.proofs.Lists.{get_or_map}
 use Rattle.xmi_read.proofs.Roles.{features}
 use Rattle.ecore_outline.proofs.Splits.{all_rows, length-rows}
-use Rattle.xmi_read.proofs.Tables.{tables, class_row, feature_row, the_classes, the_features, class_count, enum_count}
+use Rattle.ecore_rows.proofs.RowLists.{class_row, feature_row, the_classes, the_features}
+use Rattle.xmi_read.proofs.Tables.{tables, class_count, enum_count}
 use Rattle.ecore_names.proofs.Targets.{class_named_within, feature_named_at}
 use Rattle.xmi_read.proofs.TextsOf.{typed_default}
 

@@ -15,7 +15,7 @@ use Rattle.ecore_meta.proofs.Membership.{Contains-from_flat_map, Contains-from_d
 use Rattle.ecore_outline.specs.declared.outline.Role.TheVariants.{Class}
 use Rattle.ecore_outline.specs.Outline.{Entry, entry, is_class_role, is_feature_role, count, name_of as name_in}
 use Rattle.xmi_text.specs.Inheriting.{conforms}
-use Rattle.xmi_read.specs.Rows.{ClassRow, FeatureRow, feature_rows, super_numbers, is_unnamed, twice_from, twice_seen}
+use Rattle.ecore_rows.specs.Rows.{ClassRow, FeatureRow, feature_rows, super_numbers, is_unnamed, twice_from, twice_seen}
 use Rattle.xmi_read.specs.Parts.{feature_of}
 use Rattle.xmi_read.specs.Faults.{Fault, first_fault, TwiceName, classifier_twice}
 use Rattle.ecore_outline.proofs.Behind.{Behind, is_member_role}
@@ -26,7 +26,8 @@ use Rattle.xmi_read.proofs.Roles.{classes, features as of_feature}
 use Rattle.xmi_read.proofs.Sound.{Fine, fine, else_parts, some-none}
 use Rattle.ecore_outline.proofs.Splits.{rows, row_at, length-rows}
 use Rattle.xmi_read.proofs.Supers.{supers_within, conforms_to, acyclic}
-use Rattle.xmi_read.proofs.Tables.{tables, class_row, class_made, feature_row, the_features}
+use Rattle.ecore_rows.proofs.RowLists.{class_row, feature_row, the_features}
+use Rattle.xmi_read.proofs.Tables.{tables, class_made}
 use Rattle.xmi_read.proofs.Twice.{differ_append, differ_mapped}
 
 -- ## Each once

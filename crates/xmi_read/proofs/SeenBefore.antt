@@ -10,7 +10,7 @@ use Rattle.ecore_outline.specs.declared.outline.Role.{Role}
 use Rattle.ecore_outline.specs.declared.outline.Role.TheVariants.{Package, Class, Enum, Data, Literal}
 use Rattle.ecore_outline.specs.Outline.{Entry, entry, is_package_role, is_class_role, is_classifier_role, is_enum_role, count, name_of}
 use Rattle.ecore_outline.specs.Enumerations.{is_literal_role, literal_text, literals_from, literals_of}
-use Rattle.xmi_read.specs.Rows.{twice_seen}
+use Rattle.ecore_rows.specs.Rows.{twice_seen}
 use Rattle.ecore_outline.specs.Forms.{uri_of, prefix_of}
 use Rattle.xmi_read.specs.Faults.{Fault, TwiceName, when, or_else, is_same_package, is_same_classifier, is_same_literal, twice_fault}
 use Rattle.xmi_text.specs.Keys.{is_key}

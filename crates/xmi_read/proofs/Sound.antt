@@ -7,7 +7,7 @@ use Rattle.std.proofs.lemmas.Option.{none-some}
 use Rattle.atl_base.specs.declared.place.Place.{Place}
 use Rattle.ecore_outline.specs.Outline.{Entry, is_class_role, count, name_of}
 use Rattle.xmi_text.specs.Inheriting.{is_own_super}
-use Rattle.xmi_read.specs.Rows.{typed, super_numbers}
+use Rattle.ecore_rows.specs.Rows.{typed, super_numbers}
 use Rattle.xmi_read.specs.Faults.{Kind, Fault, when, or_else, is_not_ecore, is_named_role, twice_fault, type_fault, opposite_fault, number_fault, fault_at, fault_from, first_fault, NotEcore, NoName, SuperCycle}
 
 pub some-none : {A : Type 0} {x : A} → Some x ≡ None → ⊥

@@ -8,61 +8,20 @@ use Rattle.ecore_meta.specs.declared.parts.Skipped.{Skipped}
 use Rattle.ecore_meta.specs.declared.parts.Parts.{Parts}
 use Rattle.ecore_meta.specs.declared.parts.Feature.{Feature}
 use Rattle.ecore_outline.specs.declared.outline.Role.{Role}
-use Rattle.ecore_outline.specs.declared.outline.Role.TheVariants.{Class as ClassRole, Attribute, Reference, SkippedAttribute, SkippedReference}
+use Rattle.ecore_outline.specs.declared.outline.Role.TheVariants.{SkippedAttribute, SkippedReference}
 use Rattle.ecore_outline.specs.Outline.{Entry, is_package_role, is_class_role, is_enum_role, is_feature_role, is_skipped_role, count, name_of}
 use Rattle.ecore_outline.specs.Enumerations.{literals_of}
-use Rattle.xmi_read.specs.Rows.{ClassRow, class_rows_from, class_rows, super_words, supers_behind, FeatureRow, feature_rows_from, feature_rows, typed}
+use Rattle.ecore_rows.proofs.RowLists.{count-next, map-rows, class_row, the_classes, feature_row, the_features}
 use Rattle.xmi_read.specs.Parts.{class_no, package_of, class_of, classes_from, feature_of, literal_of, enums_from, skipped_from, parts_of}
 use Rattle.ecore_outline.proofs.Splits.{rows, count-push, count-push_other, length-rows}
 use Rattle.xmi_text.proofs.Tests.{false-true}
-
-pub count-next : (of : Role → Bool) (b : List Entry) (e : Entry) → count of (b ++ (e ∷ [])) ≡ (if of e.role then suc (count of b) else count of b)
-count-next of b e = by (of e.role) refl
-  where
-    by : (t : Bool) → of e.role ≡ t → count of (b ++ (e ∷ [])) ≡ (if t then suc (count of b) else count of b)
-    by true h = count-push of b e h
-    by false h = count-push_other of b e h
-
-class_is_no_package : (r : Role) → is_class_role r ≡ true → is_package_role r ≡ false
-class_is_no_package ClassRole h = refl
-class_is_no_package r h = absurd (false-true h)
-
-feature_is_no_class : (r : Role) → is_feature_role r ≡ true → is_class_role r ≡ false
-feature_is_no_class Attribute h = refl
-feature_is_no_class Reference h = refl
-feature_is_no_class r h = absurd (false-true h)
 
 skipped_is_no_class : (r : Role) → is_skipped_role r ≡ true → is_class_role r ≡ false
 skipped_is_no_class SkippedAttribute h = refl
 skipped_is_no_class SkippedReference h = refl
 skipped_is_no_class r h = absurd (false-true h)
 
--- a list of other items made of the same elements
-pub map-rows : {A B : Type 0} (of : Role → Bool) (make : List Entry → Entry → List Entry → A) (f : A → B) (b rest : List Entry) → map f (rows of make b rest) ≡ rows of (λ b e h. f (make b e h)) b rest
-map-rows of make f b [] = refl
-map-rows of make f b (e ∷ es) = by (of e.role) (map-rows of make f (b ++ (e ∷ [])) es)
-  where
-    by : (t : Bool) → map f (rows of make (b ++ (e ∷ [])) es) ≡ rows of (λ b e h. f (make b e h)) (b ++ (e ∷ [])) es
-        → map f (if t then make b e es ∷ rows of make (b ++ (e ∷ [])) es else rows of make (b ++ (e ∷ [])) es)
-        ≡ (if t then f (make b e es) ∷ rows of (λ b e h. f (make b e h)) (b ++ (e ∷ [])) es else rows of (λ b e h. f (make b e h)) (b ++ (e ∷ [])) es)
-    by true h = ap (λ l. f (make b e es) ∷ l) h
-    by false h = h
-
 -- ## Classes
-
-abbrev pub class_row : List Entry → Entry → List Entry → ClassRow
-class_row b e h = record { entry = e; holder = count is_package_role b - 1; supers = super_words e ++ supers_behind h }
-
-class_rows_are : (b rest : List Entry) → class_rows_from (count is_package_role b) rest ≡ rows is_class_role class_row b rest
-class_rows_are b [] = refl
-class_rows_are b (e ∷ es) = by (class_rows_are (b ++ (e ∷ [])) es) (is_class_role e.role) refl
-  where
-    by : class_rows_from (count is_package_role (b ++ (e ∷ []))) es ≡ rows is_class_role class_row (b ++ (e ∷ [])) es
-        → (t : Bool) → is_class_role e.role ≡ t
-        → (if t then class_row b e es ∷ class_rows_from (count is_package_role b) es else class_rows_from (if is_package_role e.role then suc (count is_package_role b) else count is_package_role b) es)
-        ≡ (if t then class_row b e es ∷ rows is_class_role class_row (b ++ (e ∷ [])) es else rows is_class_role class_row (b ++ (e ∷ [])) es)
-    by later true h = ap (λ l. class_row b e es ∷ l) (ap (λ m. class_rows_from m es) (sym (count-push_other is_package_role b e (class_is_no_package e.role h))) ∙ later)
-    by later false h = ap (λ m. class_rows_from m es) (sym (count-next is_package_role b e)) ∙ later
 
 module _ (file : List Entry) where
   abbrev pub class_made : List Entry → Entry → List Entry → Class
@@ -81,25 +40,8 @@ module _ (file : List Entry) where
 
   -- ## Features
 
-  abbrev pub feature_row : List Entry → Entry → List Entry → FeatureRow
-  feature_row b e h = record { entry = e; owner = count is_class_role b - 1; type = typed file e h }
-
-  feature_rows_are : (b rest : List Entry) → feature_rows_from file (count is_class_role b) rest ≡ rows is_feature_role feature_row b rest
-  feature_rows_are b [] = refl
-  feature_rows_are b (e ∷ es) = by (feature_rows_are (b ++ (e ∷ [])) es) (is_feature_role e.role) refl
-    where
-      by : feature_rows_from file (count is_class_role (b ++ (e ∷ []))) es ≡ rows is_feature_role feature_row (b ++ (e ∷ [])) es
-          → (t : Bool) → is_feature_role e.role ≡ t
-          → (if t then feature_row b e es ∷ feature_rows_from file (count is_class_role b) es else feature_rows_from file (if is_class_role e.role then suc (count is_class_role b) else count is_class_role b) es)
-          ≡ (if t then feature_row b e es ∷ rows is_feature_role feature_row (b ++ (e ∷ [])) es else rows is_feature_role feature_row (b ++ (e ∷ [])) es)
-      by later true h = ap (λ l. feature_row b e es ∷ l) (ap (λ m. feature_rows_from file m es) (sym (count-push_other is_class_role b e (feature_is_no_class e.role h))) ∙ later)
-      by later false h = ap (λ m. feature_rows_from file m es) (sym (count-next is_class_role b e)) ∙ later
-
-  pub the_features : feature_rows file ≡ rows is_feature_role feature_row [] file
-  the_features = feature_rows_are [] file
-
   abbrev pub feature_made : List Entry → Entry → List Entry → Feature
-  feature_made b e h = feature_of file (feature_row b e h)
+  feature_made b e h = feature_of file (feature_row file b e h)
 
   -- ## Enumerations
 
@@ -162,14 +104,11 @@ module _ (file : List Entry) where
   abbrev parts : List Package → List Class → List Feature → List EnumDef → List Skipped → Parts
   parts ps cs fs es ss = record { packages = ps; classes = cs; features = fs; enums = es; skipped = ss }
 
-  pub the_classes : class_rows file ≡ rows is_class_role class_row [] file
-  the_classes = class_rows_are [] file
-
   pub the_parts : tables ≡ parts_of file
   the_parts =
       let ps : rows is_package_role package_made [] file ≡ (parts_of file).packages = sym (packages_are [] file) in
-      let cs : rows is_class_role class_made [] file ≡ (parts_of file).classes = sym (ap (classes_from file 0) the_classes ∙ classes_are [] file) in
-      let fs : rows is_feature_role feature_made [] file ≡ (parts_of file).features = sym (ap (map (feature_of file)) the_features ∙ map-rows is_feature_role feature_row (feature_of file) [] file) in
+      let cs : rows is_class_role class_made [] file ≡ (parts_of file).classes = sym (ap (classes_from file 0) (the_classes file) ∙ classes_are [] file) in
+      let fs : rows is_feature_role feature_made [] file ≡ (parts_of file).features = sym (ap (map (feature_of file)) (the_features file) ∙ map-rows is_feature_role (feature_row file) (feature_of file) [] file) in
       let es : rows is_enum_role enum_made [] file ≡ (parts_of file).enums = sym (enums_are [] file) in
       let ss : rows is_skipped_role skipped_made [] file ≡ (parts_of file).skipped = sym (skipped_are [] file) in
       ap (λ ps. parts ps tables.classes tables.features tables.enums tables.skipped) ps

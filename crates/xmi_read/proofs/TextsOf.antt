@@ -17,7 +17,7 @@ use Rattle.xmi_text.specs.Fragments.{names_file, file_of, behind_hash, behind_sl
 use Rattle.ecore_names.specs.References.{Target, OfClass, OfEnum, OfData, local_target, class_named}
 use Rattle.ecore_outline.specs.Enumerations.{is_literal_role, literal_text, literals_from, first_text}
 use Rattle.ecore_names.specs.Types.{DataType, plain, typed_by, ecore_types, instance_types, named_types, own_type, foreign_type, type_of_target, local_type}
-use Rattle.xmi_read.specs.Rows.{ByData, Foreign, Untyped, or_foreign, foreign_word, by_data, by_class, is_foreign_data, attribute_typed, reference_typed, attribute_child_typed, reference_child_typed, text_typed, child_typed, type_behind, typed}
+use Rattle.ecore_rows.specs.Rows.{ByData, Foreign, Untyped, or_foreign, foreign_word, by_data, by_class, is_foreign_data, attribute_typed, reference_typed, attribute_child_typed, reference_child_typed, text_typed, child_typed, type_behind, typed}
 use Rattle.ecore_outline.specs.Texts.{AreAttributeTexts, IsElementText, AreTexts}
 use Rattle.xmi_read.specs.Texts.{HasTextDefault}
 use Rattle.ecore_names.proofs.Targets.{then_some}

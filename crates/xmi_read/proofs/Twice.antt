@@ -20,7 +20,8 @@ use Rattle.xmi_read.proofs.Naming.{differ}
 use Rattle.xmi_read.proofs.Roles.{packages, classes, enums, literals}
 use Rattle.xmi_read.proofs.Sound.{Fine, fine, not_when, else_parts}
 use Rattle.ecore_outline.proofs.Splits.{rows, RowAt, get_row, all_rows, pairs_of_rows, Meet, Same, Later, Earlier, meet}
-use Rattle.xmi_read.proofs.Tables.{tables, package_made, class_made, enum_made, map-rows}
+use Rattle.ecore_rows.proofs.RowLists.{map-rows}
+use Rattle.xmi_read.proofs.Tables.{tables, package_made, class_made, enum_made}
 use Rattle.xmi_text.proofs.Tests.{true-false, false-true, right_fails, both_fail}
 
 -- a test that fails at all of a list fails at each

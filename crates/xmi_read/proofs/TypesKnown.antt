@@ -7,7 +7,7 @@ use Rattle.xmi_text.specs.Markup.{given}
 use Rattle.ecore_outline.specs.declared.outline.Role.{Role}
 use Rattle.ecore_outline.specs.declared.outline.Role.TheVariants.{Stray}
 use Rattle.ecore_outline.specs.Outline.{Entry, is_feature_role}
-use Rattle.xmi_read.specs.Rows.{typed, text_typed, child_typed, type_behind, href, is_type_role, ends_feature, Untyped}
+use Rattle.ecore_rows.specs.Rows.{typed, text_typed, child_typed, type_behind, href, is_type_role, ends_feature, Untyped}
 use Rattle.xmi_read.specs.Faults.{first_fault, typed_fault, feature_type_fault, last_feature}
 use Rattle.xmi_read.proofs.Roles.{features, types}
 use Rattle.xmi_read.proofs.Sound.{Fine, fine}

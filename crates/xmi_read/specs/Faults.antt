@@ -16,7 +16,7 @@ use Rattle.ecore_outline.specs.Outline.{Entry, is_generic, is_package_role, is_c
 use Rattle.ecore_names.specs.References.{class_named, feature_named, Own, Kept, Skips}
 use Rattle.ecore_outline.specs.Enumerations.{literals_of, literal_text}
 use Rattle.xmi_text.specs.Inheriting.{is_own_super}
-use Rattle.xmi_read.specs.Rows.{Typed, ByData, ByClass, Foreign, Untyped, typed, href, super_words, child_typed, super_numbers, twice_seen, type_behind, feature_rows, FeatureRow, foreign_word}
+use Rattle.ecore_rows.specs.Rows.{Typed, ByData, ByClass, Foreign, Untyped, typed, href, super_words, child_typed, super_numbers, twice_seen, type_behind, feature_rows, FeatureRow, foreign_word}
 use Rattle.xmi_text.specs.Numbers.{is_upper, is_int_text}
 use Rattle.ecore_outline.specs.Forms.{is_bad_name, has_point, is_kept_uri, uri_of, prefix_of, is_bad_prefix}
 

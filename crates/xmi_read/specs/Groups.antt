@@ -1,12 +1,12 @@
 -- What belongs to an element, by what stands behind it: literals to an enumeration, features to a class.
-use Rattle.std.specs.Prelude.{ℕ, suc, ◌==◌, ◌≤◌, List, [], ◌∷◌, if◌then◌else◌}
+use Rattle.std.specs.Prelude.{ℕ, suc, ◌==◌, List, [], ◌∷◌, if◌then◌else◌}
 use Rattle.atl_base.specs.declared.numbers.FeatId.{FeatId}
 use Rattle.ecore_meta.specs.declared.parts.EnumDef.{EnumDef}
 use Rattle.ecore_meta.specs.declared.parts.Literal.{Literal}
 use Rattle.ecore_meta.specs.declared.parts.Package.{Package}
 use Rattle.ecore_outline.specs.Outline.{Entry, is_package_role, is_enum_role, name_of}
 use Rattle.ecore_outline.specs.Enumerations.{is_literal_role, literal_text}
-use Rattle.xmi_read.specs.Rows.{FeatureRow}
+use Rattle.ecore_rows.specs.Rows.{FeatureRow}
 use Rattle.xmi_read.specs.Parts.{feature_no}
 use Rattle.ecore_outline.specs.Forms.{uri_of, prefix_of}
 
@@ -34,13 +34,3 @@ enums_in (e ∷ es) = if is_enum_role e.role then record { name = name_of e; lit
 abbrev pub own_run : ℕ → ℕ → List FeatureRow → List FeatId
 own_run class n [] = []
 own_run class n (row ∷ rows) = if row.owner == class then feature_no n ∷ own_run class (suc n) rows else []
-
--- what stands behind the features of a class that stand first
-abbrev pub past_run : ℕ → List FeatureRow → List FeatureRow
-past_run class [] = []
-past_run class (row ∷ rows) = if row.owner == class then past_run class rows else row ∷ rows
-
--- the owners rise, from this one on
-abbrev pub IsRising : ℕ → List FeatureRow → Type 0
-IsRising k [] = Unit {0}
-IsRising k (row ∷ rows) = (k ≤ row.owner) × IsRising row.owner rows

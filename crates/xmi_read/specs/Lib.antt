@@ -1,12 +1,9 @@
-pub mod Rows
 pub mod Faults
 pub mod Parts
 pub mod Answers
-pub mod DataTypes
 pub mod Tables
 pub mod Groups
 pub mod Texts
 pub mod Sizes
-pub mod Walks
 pub mod FoundFaults
 pub mod Seen

@@ -16,7 +16,7 @@ use Rattle.xmi_text.specs.Markup.{given, flag}
 use Rattle.ecore_outline.specs.Outline.{Entry, is_package_role, is_class_role, is_enum_role, is_skipped_role, name_of}
 use Rattle.ecore_names.specs.References.{class_named, feature_named, Own, Kept}
 use Rattle.ecore_outline.specs.Enumerations.{literals_of, literal_text}
-use Rattle.xmi_read.specs.Rows.{ClassRow, class_rows, FeatureRow, feature_rows, Typed, ByData, ByClass}
+use Rattle.ecore_rows.specs.Rows.{ClassRow, class_rows, FeatureRow, feature_rows, Typed, ByData, ByClass}
 use Rattle.xmi_text.specs.Numbers.{is_many_upper}
 use Rattle.ecore_outline.specs.Forms.{uri_of, prefix_of}
 use Rattle.xmi_read.specs.Faults.{is_attribute_role}

@@ -2,7 +2,7 @@
 use Rattle.std.specs.Prelude.{◌≤◌}
 use Rattle.ecore_meta.specs.declared.parts.FeatKind.{FeatKind}
 use Rattle.ecore_meta.specs.declared.parts.FeatKind.TheVariants.{Enum}
-use Rattle.xmi_read.specs.Rows.{Typed, ByData, ByClass}
+use Rattle.ecore_rows.specs.Rows.{Typed, ByData, ByClass}
 
 -- ## Numbers in types
 

@@ -1,28 +1,13 @@
--- What the code's tables stand for: the rows of classes and of features.
-use Rattle.std.specs.Prelude.{◌≡◌, List, map}
-use Rattle.xmi_read.specs.declared.rows.ClassRow.{ClassRow as CodeClassRow}
-use Rattle.xmi_read.specs.declared.rows.FeatureRow.{FeatureRow as CodeFeatureRow}
+-- What the tables say that a file is judged by, the supertypes of each class and the rows of features; and what has been counted.
+use Rattle.std.specs.Prelude.{◌≡◌, List}
 use Rattle.xmi_read.specs.declared.first_fault.Tables.{Tables as CodeTables}
 use Rattle.xmi_read.specs.declared.first_fault.Counts.{Counts}
-use Rattle.ecore_outline.specs.Entries.{entry_of}
 use Rattle.ecore_outline.specs.declared.outline.Role.TheVariants.{Stray}
 use Rattle.ecore_outline.specs.Outline.{Entry, count, is_class_role, is_enum_role, is_feature_role}
 use Rattle.xmi_read.specs.Faults.{last_feature}
-use Rattle.xmi_read.specs.Walks.{LeadWithin}
-use Rattle.xmi_read.specs.DataTypes.{typed_of}
-use Rattle.xmi_read.specs.Rows.{ClassRow, FeatureRow, super_numbers, feature_rows}
-
-abbrev pub class_row_of : CodeClassRow → ClassRow
-class_row_of r = record { entry = entry_of r.entry; holder = r.holder; supers = map (λ w. w.now) r.supers.items }
-
-abbrev pub class_rows_of : List CodeClassRow → List ClassRow
-class_rows_of = map class_row_of
-
-abbrev pub feature_row_of : CodeFeatureRow → FeatureRow
-feature_row_of r = record { entry = entry_of r.entry; owner = r.owner; type = typed_of r.typed }
-
-abbrev pub feature_rows_of : List CodeFeatureRow → List FeatureRow
-feature_rows_of = map feature_row_of
+use Rattle.ecore_rows.specs.Walks.{LeadWithin}
+use Rattle.ecore_rows.specs.Rows.{super_numbers, feature_rows}
+use Rattle.ecore_rows.specs.CodeRows.{feature_rows_of}
 
 -- the tables of a file
 pub record AreTables (file : List Entry) (t : CodeTables) : Type 0 where

@@ -1,7 +1,7 @@
 -- What can be read of a file is text: names, and the names and values of attributes.
 use Rattle.atl_base.specs.XmlText.{IsXmlText}
 use Rattle.xmi_text.specs.Markup.{or_empty}
-use Rattle.xmi_read.specs.Rows.{Typed, ByData}
+use Rattle.ecore_rows.specs.Rows.{Typed, ByData}
 
 -- the default that a type gives
 abbrev pub HasTextDefault : Typed → Type 0

@@ -2,17 +2,17 @@
 ghost use Rattle.std.specs.Prelude.{◌≡◌, ◌≤◌, ◌||◌, List, length, map, drop, codes, All, IfOk};
 ghost use Rattle.xmi_text.specs.Markup.{flag as flag_of};
 ghost use Rattle.ecore_outline.specs.Outline.{name_of as name_of_entry};
-ghost use Rattle.xmi_read.specs.Rows.{class_rows as class_rows_in, super_numbers, feature_rows as feature_rows_in};
+ghost use Rattle.ecore_rows.specs.Rows.{class_rows as class_rows_in, super_numbers, feature_rows as feature_rows_in};
 ghost use Rattle.xmi_read.specs.Parts.{class_no, classes_from};
 ghost use Rattle.ecore_outline.specs.Entries.{entry_of, entries_of};
-ghost use Rattle.xmi_read.specs.Tables.{class_row_of, class_rows_of, feature_rows_of};
+ghost use Rattle.ecore_rows.specs.CodeRows.{class_row_of, class_rows_of, feature_rows_of};
 ghost use Rattle.xmi_read.specs.Groups.{own_run};
 
-use crate::rows::{ClassRow, FeatureRow};
 use atl_base::numbers::{ClassId, FeatId};
 use ecore_meta::parts::Class;
 use ecore_outline::outline::Entry;
 use ecore_outline::text::name_text;
+use ecore_rows::rows::{ClassRow, FeatureRow};
 use sqlite_items::Items;
 use std::alloc::{AllocError, Global};
 use xmi_text::markup::flag;

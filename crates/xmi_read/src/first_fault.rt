@@ -1,11 +1,11 @@
 // The first thing that is wrong in a file.
 ghost use Rattle.std.specs.Prelude.{◌≡◌, ◌+◌, ◌-◌, ◌<◌, ◌^◌, ◌++◌, ◌∷◌, [], List, Option, Some, None, IfOk, length, option_map, true, if◌then◌else◌};
 ghost use Rattle.ecore_outline.specs.Outline.{Entry as SomeEntry, count, is_class_role, is_feature_role, name_of as name_of_entry};
-ghost use Rattle.xmi_read.specs.Rows.{typed as typed_in, twice_seen as twice_seen_in, feature_rows as feature_rows_in};
+ghost use Rattle.ecore_rows.specs.Rows.{typed as typed_in, twice_seen as twice_seen_in, feature_rows as feature_rows_in};
 ghost use Rattle.xmi_read.specs.Faults.{Fault as SomeFault, when as when_of, or_else as or_else_of, twice_fault as twice_fault_in, type_fault as type_fault_in, cycle_fault as cycle_fault_in, opposite_fault as opposite_fault_in, number_fault as number_fault_in, fault_at as fault_at_in, first_fault as first_fault_in, TwiceName};
 ghost use Rattle.ecore_outline.specs.Entries.{entry_of, entries_of};
-ghost use Rattle.xmi_read.specs.DataTypes.{typed_of};
-ghost use Rattle.xmi_read.specs.Tables.{AreTables, AreCounted, feature_rows_of};
+ghost use Rattle.ecore_rows.specs.CodeRows.{typed_of, feature_rows_of};
+ghost use Rattle.xmi_read.specs.Tables.{AreTables, AreCounted};
 ghost use Rattle.xmi_read.specs.FoundFaults.{fault_in, told};
 ghost use Rattle.xmi_read.specs.Seen.{repeats};
 
@@ -13,15 +13,15 @@ use crate::earlier_names::{is_repeated, none_seen, note_names};
 use crate::fault::{Fault, FoundFault, Kind, element_fault, when};
 use crate::number_fault::number_fault;
 use crate::opposite::{is_bad_opposite, is_reference};
-use crate::reach::{is_own_super, super_numbers};
-use crate::repeated::twice_seen;
-use crate::rows::{FeatureRow, class_rows, feature_rows};
 use crate::type_fault::{class_fault, feature_type_fault, supers_fault, typed_fault};
-use crate::typed::{Typed, child_typed, href};
 use ecore_names::file::File;
 use ecore_names::target::one_more;
 use ecore_outline::outline::{Entry, Role};
 use ecore_outline::role::{is_class, is_enum, is_feature, name_of};
+use ecore_rows::reach::{is_own_super, super_numbers};
+use ecore_rows::repeated::twice_seen;
+use ecore_rows::rows::{FeatureRow, class_rows, feature_rows};
+use ecore_rows::typed::{Typed, child_typed, href};
 use sqlite_items::Items;
 use std::alloc::{AllocError, Global};
 

@@ -1,20 +1,20 @@
 // Bounds and defaults that are none.
 ghost use Rattle.std.specs.Prelude.{◌≡◌, ◌&&◌, not, bytes_eq, codes, [], find, option_map};
 ghost use Rattle.std.specs.Option.{option_copied};
-ghost use Rattle.xmi_read.specs.Rows.{typed as typed_in};
+ghost use Rattle.ecore_rows.specs.Rows.{typed as typed_in};
 ghost use Rattle.xmi_read.specs.Faults.{is_attribute_role, is_text_of as is_text_in, is_bad_default as is_bad_default_in, is_bad_number as is_bad_number_in, number_fault as number_fault_in};
 ghost use Rattle.ecore_outline.specs.Entries.{entry_of, entries_of};
 ghost use Rattle.ecore_names.specs.DataTypes.{kind_of};
-ghost use Rattle.xmi_read.specs.DataTypes.{typed_of};
+ghost use Rattle.ecore_rows.specs.CodeRows.{typed_of};
 ghost use Rattle.xmi_read.specs.FoundFaults.{fault_in};
 
 use crate::fault::{Fault, Kind};
-use crate::typed::Typed;
 use doc_text::tree::{Attribute, Element};
 use ecore_names::data_type::DataKind;
 use ecore_names::file::File;
 use ecore_outline::outline::{Entry, Role};
 use ecore_outline::role::is_feature;
+use ecore_rows::typed::Typed;
 use xmi_text::numbers::{is_int_text, is_upper};
 
 pub(crate) fn is_attribute(role: Role) -> bool

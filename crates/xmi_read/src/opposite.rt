@@ -3,17 +3,16 @@ ghost use Rattle.std.specs.Prelude.{◌≡◌, [], false, codes, slice_get};
 ghost use Rattle.std.specs.Option.{option_map_or};
 ghost use Rattle.xmi_text.specs.Markup.{given as given_of};
 ghost use Rattle.ecore_names.specs.References.{feature_named as feature_named_in};
-ghost use Rattle.xmi_read.specs.Rows.{ByClass, feature_rows as feature_rows_in};
+ghost use Rattle.ecore_rows.specs.Rows.{ByClass, feature_rows as feature_rows_in};
 ghost use Rattle.xmi_read.specs.Faults.{is_reference_role, is_contained as is_contained_of, is_this as is_this_of, fit_both as fit_both_of, fit as fit_of, is_opposite as is_opposite_of, is_bad_end as is_bad_end_of, is_bad_opposite as is_bad_opposite_of};
 ghost use Rattle.ecore_outline.specs.Entries.{entry_of, entries_of};
-ghost use Rattle.xmi_read.specs.DataTypes.{typed_of};
-ghost use Rattle.xmi_read.specs.Tables.{feature_row_of, feature_rows_of};
+ghost use Rattle.ecore_rows.specs.CodeRows.{typed_of, feature_row_of, feature_rows_of};
 
-use crate::rows::FeatureRow;
-use crate::typed::Typed;
 use ecore_names::file::File;
 use ecore_names::own::{Own, feature_named};
 use ecore_outline::outline::{Entry, Role};
+use ecore_rows::rows::FeatureRow;
+use ecore_rows::typed::Typed;
 use xmi_text::markup::{flag, given};
 
 pub(crate) fn is_reference(role: Role) -> bool

@@ -3,17 +3,17 @@ ghost use Rattle.std.specs.Prelude.{◌≡◌, [], ◌&&◌, map, find, is_none,
 ghost use Rattle.std.specs.Option.{option_copied};
 ghost use Rattle.xmi_text.specs.Markup.{given as given_of};
 ghost use Rattle.ecore_names.specs.References.{class_named as class_named_in};
-ghost use Rattle.xmi_read.specs.Rows.{super_words, type_behind as type_behind_of, foreign_word as foreign_word_of};
+ghost use Rattle.ecore_rows.specs.Rows.{super_words, type_behind as type_behind_of, foreign_word as foreign_word_of};
 ghost use Rattle.xmi_read.specs.Faults.{typed_fault as typed_fault_of, supers_fault as supers_fault_in};
 ghost use Rattle.ecore_outline.specs.Entries.{entry_of, entries_of};
-ghost use Rattle.xmi_read.specs.DataTypes.{typed_of};
+ghost use Rattle.ecore_rows.specs.CodeRows.{typed_of};
 ghost use Rattle.xmi_read.specs.FoundFaults.{fault_in};
 
 use crate::fault::{Fault, Kind};
-use crate::typed::{Typed, type_behind};
 use ecore_names::file::File;
 use ecore_names::target::class_named;
 use ecore_outline::outline::Entry;
+use ecore_rows::typed::{Typed, type_behind};
 use std::alloc::{AllocError, Global};
 use xmi_text::markup::{given, given_text};
 use xmi_text::references::names_file;

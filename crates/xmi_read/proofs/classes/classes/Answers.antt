@@ -2,7 +2,7 @@ use Rattle.std.proofs.Common.{◌≤◌, ◌++◌, ◌∷◌, [], length, refl, 
 use Rattle.std.specs.Prelude.{All}
 use Rattle.std.proofs.lemmas.List.{length-map}
 use Rattle.ecore_outline.specs.Entries.{entry_of, entries_of}
-use Rattle.xmi_read.specs.Tables.{class_row_of, class_rows_of, feature_row_of}
+use Rattle.ecore_rows.specs.CodeRows.{class_row_of, class_rows_of, feature_row_of}
 use Rattle.xmi_read.specs.Parts.{classes_from}
 use Rattle.xmi_read.proofs.ClassLoop.{supers_at, rising_first, own_is, own_within, rising_past, are_past, told_past}
 use Rattle.xmi_read.proofs.RowsFit.{class_fits, features_small, supers_small}

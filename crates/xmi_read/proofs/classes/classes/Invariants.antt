@@ -1,8 +1,8 @@
 use Rattle.std.proofs.Common.{◌≡◌, ◌++◌, ◌≤◌, ℕ, length, drop}
 use Rattle.xmi_read.specs.Parts.{own_of, classes_from}
 use Rattle.ecore_outline.specs.Entries.{entries_of}
-use Rattle.xmi_read.specs.Tables.{class_rows_of, feature_rows_of}
-use Rattle.xmi_read.specs.Groups.{IsRising}
+use Rattle.ecore_rows.specs.CodeRows.{class_rows_of, feature_rows_of}
+use Rattle.ecore_rows.specs.Runs.{IsRising}
 use Rattle.xmi_read.proofs.classes.classes.Given as goal
 
 -- the features from `begin` on are of this class and of later ones, which have no others

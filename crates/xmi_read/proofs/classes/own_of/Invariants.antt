@@ -1,6 +1,6 @@
 use Rattle.std.proofs.Common.{◌≡◌, ◌++◌, drop}
 use Rattle.xmi_read.specs.Groups.{own_run}
-use Rattle.xmi_read.specs.Tables.{feature_rows_of}
+use Rattle.ecore_rows.specs.CodeRows.{feature_rows_of}
 use Rattle.xmi_read.proofs.classes.own_of.Given as goal
 
 abbrev pub invariant-loop-i : goal.invariant-loop-i

@@ -1,5 +1,5 @@
 use Rattle.ecore_outline.specs.Entries.{entries_of}
-use Rattle.xmi_read.specs.Tables.{feature_row_of}
+use Rattle.ecore_rows.specs.CodeRows.{feature_row_of}
 use Rattle.xmi_read.proofs.FeatureParts.{made_is}
 use Rattle.xmi_read.proofs.features.feature_of.Goals as goal
 

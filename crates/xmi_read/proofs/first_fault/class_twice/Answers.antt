@@ -1,9 +1,9 @@
 use Rattle.std.proofs.Common.{sym, ap, ◌∙◌, subst}
 use Rattle.ecore_outline.specs.Entries.{entries_of}
-use Rattle.xmi_read.specs.Groups.{IsRising}
-use Rattle.xmi_read.specs.Tables.{feature_rows_of}
-use Rattle.xmi_read.specs.Walks.{LeadWithin}
-use Rattle.xmi_read.proofs.Runs.{features_rise}
+use Rattle.ecore_rows.specs.Runs.{IsRising}
+use Rattle.ecore_rows.specs.CodeRows.{feature_rows_of}
+use Rattle.ecore_rows.specs.Walks.{LeadWithin}
+use Rattle.ecore_rows.proofs.Rising.{features_rise}
 use Rattle.xmi_read.proofs.first_fault.class_twice.Goals as goal
 
 pub twice_seen-requires-clause-leads : goal.twice_seen-requires-clause-leads

@@ -1,5 +1,5 @@
 use Rattle.std.proofs.Common.{sym, subst}
-use Rattle.xmi_read.specs.Walks.{LeadWithin}
+use Rattle.ecore_rows.specs.Walks.{LeadWithin}
 use Rattle.xmi_read.proofs.first_fault.cycle_fault.Goals as goal
 
 pub is_own_super-requires-clause-leads : goal.is_own_super-requires-clause-leads

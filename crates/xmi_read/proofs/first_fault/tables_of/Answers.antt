@@ -1,7 +1,7 @@
 use Rattle.std.proofs.Common.{sym, subst}
 use Rattle.ecore_outline.specs.Entries.{entries_of}
-use Rattle.xmi_read.specs.Walks.{LeadWithin}
-use Rattle.xmi_read.proofs.Supers.{number_within}
+use Rattle.ecore_rows.specs.Walks.{LeadWithin}
+use Rattle.ecore_rows.proofs.SuperNumbers.{number_within}
 use Rattle.xmi_read.proofs.first_fault.tables_of.Goals as goal
 
 pub returns : goal.returns

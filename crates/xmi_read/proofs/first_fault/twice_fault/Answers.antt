@@ -2,7 +2,7 @@ use Rattle.std.proofs.Common.{sym, ap, ◌∙◌}
 use Rattle.std.specs.Prelude.{option_map}
 use Rattle.ecore_outline.specs.Outline.{name_of}
 use Rattle.ecore_outline.specs.Entries.{entry_of, entries_of}
-use Rattle.xmi_read.specs.Rows.{twice_seen}
+use Rattle.ecore_rows.specs.Rows.{twice_seen}
 use Rattle.xmi_read.specs.Faults.{when, or_else, TwiceName}
 use Rattle.xmi_read.specs.Seen.{repeats}
 use Rattle.xmi_read.specs.FoundFaults.{fault_in}

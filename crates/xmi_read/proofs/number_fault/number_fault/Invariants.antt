@@ -2,7 +2,7 @@ use Rattle.std.proofs.Common.{◌≡◌, drop}
 use Rattle.std.specs.Prelude.{find}
 use Rattle.xmi_read.specs.Faults.{is_bad_number}
 use Rattle.ecore_outline.specs.Entries.{entries_of}
-use Rattle.xmi_read.specs.DataTypes.{typed_of}
+use Rattle.ecore_rows.specs.CodeRows.{typed_of}
 use Rattle.xmi_read.proofs.number_fault.number_fault.Given as goal
 
 abbrev pub invariant-loop-i : goal.invariant-loop-i

@@ -1,6 +1,6 @@
 use Rattle.std.proofs.Common.{◌≡◌, ap, ◌∙◌}
 use Rattle.ecore_outline.specs.Entries.{entries_of}
-use Rattle.xmi_read.specs.Rows.{class_rows}
+use Rattle.ecore_rows.specs.Rows.{class_rows}
 use Rattle.xmi_read.specs.Parts.{classes_from, skipped_from}
 use Rattle.xmi_read.specs.Groups.{packages_in, enums_in}
 use Rattle.xmi_read.proofs.PartsMade.{made_is}

@@ -1,5 +1,5 @@
 use Rattle.std.proofs.Common.{◌≡◌, drop, map}
-use Rattle.xmi_read.specs.Rows.{foreign_word}
+use Rattle.ecore_rows.specs.Rows.{foreign_word}
 use Rattle.xmi_read.proofs.type_fault.foreign_word.Given as goal
 
 abbrev pub invariant-loop-i : goal.invariant-loop-i

@@ -1,5 +1,0 @@
-use Rattle.xmi_read.proofs.Reaching.{Walk}
-use Rattle.xmi_read.proofs.reach.reach.Given as goal
-
-abbrev pub invariant-loop-at : goal.invariant-loop-at
-invariant-loop-at l = Walk l.supers l.starts l.reached.keys l.at

@@ -1,6 +1,0 @@
-use Rattle.std.proofs.Common.{◌≡◌, drop, map}
-use Rattle.xmi_read.specs.Rows.{or_foreign}
-use Rattle.xmi_read.proofs.typed.or_foreign.Given as goal
-
-abbrev pub invariant-loop-i : goal.invariant-loop-i
-invariant-loop-i l = or_foreign (map (λ w. w.now) (drop l.i l.words)) l.text ≡ or_foreign (map (λ w. w.now) l.words) l.text

@@ -1,7 +1,0 @@
-use Rattle.std.proofs.Common.{◌≡◌, drop}
-use Rattle.xmi_read.specs.Rows.{type_behind}
-use Rattle.ecore_outline.specs.Entries.{entries_of}
-use Rattle.xmi_read.proofs.typed.type_behind.Given as goal
-
-abbrev pub invariant-loop-i : goal.invariant-loop-i
-invariant-loop-i l = type_behind (entries_of (drop l.i l.behind)) ≡ type_behind (entries_of l.behind)
