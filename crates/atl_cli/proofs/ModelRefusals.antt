@@ -13,8 +13,8 @@ use Rattle.doc_text.specs.declared.tree.Doc.{Doc}
 use Rattle.ecore_meta.specs.declared.parts.Parts.{Parts}
 use Rattle.model_store.specs.Contents.{Contents}
 use Rattle.xmi_read.specs.Answers as ER
-use Rattle.xmi_read.specs.Faults.{Fault as MetaFault, first_fault as first_meta_fault}
-use Rattle.xmi_read.specs.declared.fault.Kind.TheVariants as EF
+use Rattle.ecore_faults.specs.Faults.{Fault as MetaFault, first_fault as first_meta_fault}
+use Rattle.ecore_faults.specs.declared.fault.Kind.TheVariants as EF
 use Rattle.ecore_outline.specs.Outline as EO
 use Rattle.xmi_read.specs.Parts.{parts_of}
 use Rattle.xmi_read.specs.declared.refusal.MetaRefusal.{MetaRefusal}

@@ -10,7 +10,7 @@ use Rattle.doc_text.specs.Reading.{IsDocumentOf, read_bytes}
 use Rattle.doc_text.specs.declared.tree.Doc.{Doc}
 use Rattle.ecore_meta.specs.declared.parts.Parts.{Parts}
 use Rattle.model_store.specs.Contents.{Contents}
-use Rattle.xmi_read.specs.Faults.{Fault as MetaFault, first_fault as first_meta_fault}
+use Rattle.ecore_faults.specs.Faults.{Fault as MetaFault, first_fault as first_meta_fault}
 use Rattle.ecore_outline.specs.Outline.{outline as meta_outline}
 use Rattle.xmi_read.specs.Parts.{parts_of}
 use Rattle.xmi_models.specs.Faults.{Fault as ModelFault}

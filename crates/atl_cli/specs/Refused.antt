@@ -3,9 +3,9 @@ use Rattle.std.specs.Prelude.{ℕ, List, codes}
 use Rattle.atl_base.specs.declared.place.Place.{Place}
 use Rattle.doc_text.specs.declared.refusal.Fault.{Fault as DocumentFault}
 use Rattle.doc_text.specs.declared.refusal.Fault.TheVariants as D
-use Rattle.xmi_read.specs.Faults.{Fault as MetaFault}
-use Rattle.xmi_read.specs.declared.fault.Kind.{Kind}
-use Rattle.xmi_read.specs.declared.fault.Kind.TheVariants as E
+use Rattle.ecore_faults.specs.Faults.{Fault as MetaFault}
+use Rattle.ecore_faults.specs.declared.fault.Kind.{Kind}
+use Rattle.ecore_faults.specs.declared.fault.Kind.TheVariants as E
 use Rattle.xmi_models.specs.Faults.{Fault as ModelFault}
 use Rattle.xmi_models.specs.declared.fault.Kind.TheVariants as M
 use Rattle.atl_cli.specs.declared.refused.MetaKind.{MetaKind}

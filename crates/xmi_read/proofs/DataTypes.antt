@@ -22,7 +22,7 @@ use Rattle.ecore_names.specs.Types.{DataType, plain, with_default, typed_by, eco
 use Rattle.ecore_rows.specs.Rows.{Typed, ByData, ByClass, Foreign, Untyped, or_foreign, foreign_word, by_data, by_class, is_foreign_data, attribute_typed, reference_typed, attribute_child_typed, reference_child_typed, text_typed, child_typed, type_behind, typed}
 use Rattle.xmi_read.specs.Parts.{literal_of}
 use Rattle.xmi_text.specs.Numbers.{is_digits, is_int_text}
-use Rattle.xmi_read.specs.Faults.{is_text_of}
+use Rattle.ecore_faults.specs.Faults.{is_text_of}
 use Rattle.xmi_text.proofs.Lists.{map-map, to_map}
 use Rattle.xmi_read.proofs.Naming.{differ}
 use Rattle.ecore_outline.proofs.Splits.{rows, row_at}

@@ -16,11 +16,12 @@ use Rattle.ecore_names.specs.Types.{DataType}
 use Rattle.ecore_rows.specs.Rows.{Typed, ByData, ByClass, Foreign, Untyped, typed}
 use Rattle.xmi_read.specs.Parts.{kept, opposite_of, kind_of, default_of}
 use Rattle.xmi_text.specs.Numbers.{is_upper}
-use Rattle.xmi_read.specs.Faults.{Fault, first_fault, BadNumber, is_text_of, is_bad_default, is_bad_number, number_fault}
+use Rattle.ecore_faults.specs.declared.fault.Kind.TheVariants.{BadNumber}
+use Rattle.ecore_faults.specs.Faults.{Fault, first_fault, is_text_of, is_bad_default, is_bad_number, number_fault}
 use Rattle.xmi_read.proofs.DataTypes.{AttributeFits, ReferenceFits, attribute_fits, reference_fits, text_is}
 use Rattle.xmi_text.proofs.Lists.{found_passes, found_fails}
-use Rattle.xmi_read.proofs.Roles.{features}
-use Rattle.xmi_read.proofs.Sound.{Fine, fine, some-none}
+use Rattle.ecore_faults.proofs.Roles.{features}
+use Rattle.ecore_faults.proofs.Sound.{Fine, fine, some-none}
 use Rattle.ecore_outline.proofs.Splits.{all_rows, length-rows, count-here}
 use Rattle.ecore_rows.proofs.RowLists.{feature_row}
 use Rattle.xmi_read.proofs.Tables.{tables, feature_made}

@@ -18,7 +18,9 @@ use Rattle.ecore_names.specs.References.{class_named}
 use Rattle.ecore_names.specs.Types.{DataType, local_type, foreign_type}
 use Rattle.xmi_text.specs.Inheriting.{is_own_super, conforms}
 use Rattle.ecore_rows.specs.Rows.{Typed, ByData, ByClass, Foreign, Untyped, FeatureRow, or_foreign, foreign_word, by_data, by_class, is_foreign_data, attribute_typed, reference_typed, attribute_child_typed, reference_child_typed, text_typed, child_typed, type_behind, is_type_role, ends_feature, href, typed, super_words, super_numbers, feature_rows_from, feature_rows, is_unnamed, twice_from}
-use Rattle.xmi_read.specs.Faults.{Kind, Fault, when, or_else, first_of, NotEcore, IsSubPackage, Generic, NoName, TwiceName, OtherFile, NoType, SuperCycle, BadOpposite, BadNumber, is_not_ecore, is_sub_role, is_named_role, generic_in, is_bad_number, number_fault, typed_fault, feature_type_fault, last_feature, supers_fault, type_fault, is_bad_opposite, is_reference_role, opposite_fault, twice_fault, cycle_fault, fault_at, fault_from, first_fault}
+use Rattle.ecore_faults.specs.declared.fault.Kind.{Kind}
+use Rattle.ecore_faults.specs.declared.fault.Kind.TheVariants.{NotEcore, SubPackage as IsSubPackage, Generic, NoName, TwiceName, OtherFile, NoType, SuperCycle, BadOpposite, BadNumber}
+use Rattle.ecore_faults.specs.Faults.{Fault, when, or_else, first_of, is_not_ecore, is_sub_role, is_named_role, generic_in, is_bad_number, number_fault, typed_fault, feature_type_fault, last_feature, supers_fault, type_fault, is_bad_opposite, is_reference_role, opposite_fault, twice_fault, cycle_fault, fault_at, fault_from, first_fault}
 use Rattle.ecore_outline.specs.Texts.{AreAttributeTexts, AreNameTexts, IsElementText, AreTexts}
 use Rattle.xmi_text.proofs.TextWords.{AreWordTexts, words_are_texts}
 use Rattle.xmi_read.proofs.TextsOf.{given_is_text, name_is_text}

@@ -9,7 +9,7 @@ use Rattle.ecore_outline.specs.Outline.{Entry, name_of}
 use Rattle.ecore_rows.specs.Rows.{FeatureRow}
 use Rattle.xmi_read.specs.Parts.{class_no, kind_of, is_unique, default_of, feature_of}
 use Rattle.xmi_text.specs.Numbers.{is_many_upper}
-use Rattle.xmi_read.specs.Faults.{is_attribute_role}
+use Rattle.ecore_faults.specs.Faults.{is_attribute_role}
 
 abbrev pub made : ℕ → List ℕ → FeatKind → Bool → Bool → Bool → Option (List ℕ) → Feature
 made owner name kind many unique is_id default = record { name = name; owner = class_no owner; kind = kind; many = many; unique = unique; is_id = is_id; default = default }

@@ -3,14 +3,11 @@ pub mod Defaults
 pub mod Naming
 pub mod Opposites
 pub mod Owners
-pub mod Roles
 pub mod Samples
 pub mod Seen
-pub mod Sound
 pub mod Supers
 pub mod Tables
 pub mod Twice
-pub mod TypesKnown
 pub mod Valid
 pub mod Groups
 pub mod Runs
@@ -20,6 +17,4 @@ pub mod RowsFit
 pub mod ClassParts
 pub mod FeatureParts
 pub mod ClassLoop
-pub mod Places
 pub mod PartsMade
-pub mod SeenBefore

@@ -13,9 +13,9 @@ use Rattle.ecore_outline.specs.Outline.{Entry, entry, is_package_role, is_class_
 use Rattle.ecore_outline.specs.Enumerations.{is_literal_role, literals_from}
 use Rattle.xmi_read.specs.Parts.{literal_of}
 use Rattle.ecore_outline.specs.Forms.{is_name, is_bad_name, has_point, is_prefix, is_bad_prefix, is_kept_uri, or_name, uri_of, prefix_of}
-use Rattle.xmi_read.specs.Faults.{first_fault, is_misnamed, is_stray, is_empty_type, flags_of}
-use Rattle.xmi_read.proofs.Roles.{packages, classes, enums, literals, features}
-use Rattle.xmi_read.proofs.Sound.{Fine, fine}
+use Rattle.ecore_faults.specs.Faults.{first_fault, is_misnamed, is_stray, is_empty_type, flags_of}
+use Rattle.ecore_faults.proofs.Roles.{packages, classes, enums, literals, features}
+use Rattle.ecore_faults.proofs.Sound.{Fine, fine}
 use Rattle.ecore_outline.proofs.Splits.{all_rows}
 use Rattle.xmi_read.proofs.Tables.{tables, package_made, class_made, feature_made, enum_made}
 use Rattle.xmi_text.proofs.Tests.{true-false}

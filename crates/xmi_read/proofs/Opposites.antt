@@ -15,15 +15,16 @@ use Rattle.ecore_outline.specs.Outline.{Entry, entry, is_feature_role, count, na
 use Rattle.ecore_names.specs.References.{Own, Kept, Skips, feature_named}
 use Rattle.ecore_rows.specs.Rows.{FeatureRow, Typed, ByData, ByClass, Foreign, Untyped, typed, feature_rows}
 use Rattle.xmi_read.specs.Parts.{class_no, feature_no, kept, kind_of, feature_of, opposite_of as opposite_in}
-use Rattle.xmi_read.specs.Faults.{first_fault, BadOpposite, when, typed_fault, is_reference_role, is_contained, is_this, fit_both, fit, is_opposite, is_bad_end, is_bad_opposite}
+use Rattle.ecore_faults.specs.declared.fault.Kind.TheVariants.{BadOpposite}
+use Rattle.ecore_faults.specs.Faults.{first_fault, when, typed_fault, is_reference_role, is_contained, is_this, fit_both, fit, is_opposite, is_bad_end, is_bad_opposite}
 use Rattle.xmi_read.proofs.DataTypes.{AttributeFits, ReferenceFits, attribute_fits, reference_fits}
-use Rattle.xmi_read.proofs.Roles.{features, references}
-use Rattle.xmi_read.proofs.Sound.{fine, not_when, some-none}
+use Rattle.ecore_faults.proofs.Roles.{features, references}
+use Rattle.ecore_faults.proofs.Sound.{fine, not_when, some-none}
 use Rattle.ecore_outline.proofs.Splits.{rows, row_at, row_here}
 use Rattle.ecore_rows.proofs.RowLists.{feature_row, the_features}
 use Rattle.xmi_read.proofs.Tables.{tables, feature_made}
 use Rattle.ecore_names.proofs.Targets.{KeptAt, feature_named_at}
-use Rattle.xmi_read.proofs.TypesKnown.{type_known}
+use Rattle.ecore_faults.proofs.TypesKnown.{type_known}
 use Rattle.xmi_text.proofs.Tests.{true-false, false-true}
 
 no_opposite : (k : FeatKind) → is_reference k ≡ false → opposite_of k ≡ None

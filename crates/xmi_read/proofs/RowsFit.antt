@@ -17,10 +17,10 @@ use Rattle.ecore_rows.specs.declared.rows.ClassRow.{ClassRow as CodeClassRow}
 use Rattle.ecore_rows.specs.declared.rows.FeatureRow.{FeatureRow as CodeFeatureRow}
 use Rattle.ecore_rows.specs.CodeRows.{class_row_of, class_rows_of, feature_row_of, feature_rows_of}
 use Rattle.ecore_outline.specs.Texts.{AreTexts}
-use Rattle.xmi_read.specs.Texts.{HasTextDefault}
+use Rattle.xmi_read.specs.TypeTexts.{HasTextDefault}
 use Rattle.xmi_read.proofs.DataTypes.{AttributeFits, ReferenceFits, attribute_fits, reference_fits}
 use Rattle.xmi_text.proofs.Lists.{get_or_map}
-use Rattle.xmi_read.proofs.Roles.{features}
+use Rattle.ecore_faults.proofs.Roles.{features}
 use Rattle.ecore_outline.proofs.Splits.{all_rows, length-rows}
 use Rattle.ecore_rows.proofs.RowLists.{class_row, feature_row, the_classes, the_features}
 use Rattle.xmi_read.proofs.Tables.{tables, class_count, enum_count}

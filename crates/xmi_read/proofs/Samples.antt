@@ -10,7 +10,9 @@ use Rattle.ecore_outline.specs.declared.outline.Role.TheVariants.{Package, Class
 use Rattle.ecore_outline.specs.Outline.{Entry, entry}
 use Rattle.ecore_names.specs.Types.{ecore_types}
 use Rattle.xmi_read.specs.Parts.{class_no, feature_no, parts_of}
-use Rattle.xmi_read.specs.Faults.{Kind, Fault, first_fault, NotEcore, IsSubPackage, Generic, NoName, TwiceName, OtherFile, NoType, SuperCycle, BadOpposite, BadNumber}
+use Rattle.ecore_faults.specs.declared.fault.Kind.{Kind}
+use Rattle.ecore_faults.specs.declared.fault.Kind.TheVariants.{NotEcore, SubPackage as IsSubPackage, Generic, NoName, TwiceName, OtherFile, NoType, SuperCycle, BadOpposite, BadNumber}
+use Rattle.ecore_faults.specs.Faults.{Fault, first_fault}
 
 abbrev given : List ℕ → List ℕ → Attribute
 given name value = record { space = []; name = name; value = value }

@@ -17,13 +17,14 @@ use Rattle.ecore_outline.specs.Outline.{Entry, entry, is_class_role, is_feature_
 use Rattle.xmi_text.specs.Inheriting.{conforms}
 use Rattle.ecore_rows.specs.Rows.{ClassRow, FeatureRow, feature_rows, super_numbers, is_unnamed, twice_from, twice_seen}
 use Rattle.xmi_read.specs.Parts.{feature_of}
-use Rattle.xmi_read.specs.Faults.{Fault, first_fault, TwiceName, classifier_twice}
+use Rattle.ecore_faults.specs.declared.fault.Kind.TheVariants.{TwiceName}
+use Rattle.ecore_faults.specs.Faults.{Fault, first_fault, classifier_twice}
 use Rattle.ecore_outline.proofs.Behind.{Behind, is_member_role}
 use Rattle.xmi_text.proofs.Lists.{get_of_map, pairs_cons, pairs_rest}
 use Rattle.xmi_read.proofs.Naming.{differ}
 use Rattle.xmi_read.proofs.Owners.{own_differ, features_are, owner_row, owner_is, owners}
-use Rattle.xmi_read.proofs.Roles.{classes, features as of_feature}
-use Rattle.xmi_read.proofs.Sound.{Fine, fine, else_parts, some-none}
+use Rattle.ecore_faults.proofs.Roles.{classes, features as of_feature}
+use Rattle.ecore_faults.proofs.Sound.{Fine, fine, else_parts, some-none}
 use Rattle.ecore_outline.proofs.Splits.{rows, row_at, length-rows}
 use Rattle.xmi_read.proofs.Supers.{supers_within, conforms_to, acyclic}
 use Rattle.ecore_rows.proofs.RowLists.{class_row, feature_row, the_features}

@@ -9,10 +9,10 @@ use Rattle.ecore_outline.specs.Outline.{Entry, is_class_role, count}
 use Rattle.xmi_text.specs.Inheriting.{conforms, is_own_super}
 use Rattle.ecore_rows.specs.Rows.{ClassRow, class_rows, super_numbers}
 use Rattle.xmi_read.specs.Parts.{class_no}
-use Rattle.xmi_read.specs.Faults.{first_fault}
+use Rattle.ecore_faults.specs.Faults.{first_fault}
 use Rattle.xmi_text.proofs.Lists.{get_mapped, get_or_map, map-map, in_map}
 use Rattle.xmi_text.proofs.Paths.{Simple, one, further, passes, conforms_from}
-use Rattle.xmi_read.proofs.Sound.{fine}
+use Rattle.ecore_faults.proofs.Sound.{fine}
 use Rattle.ecore_outline.proofs.Splits.{rows, RowAt, row_at}
 use Rattle.ecore_rows.proofs.RowLists.{class_row, map-rows, the_classes}
 use Rattle.xmi_read.proofs.Tables.{tables, class_made, class_count}

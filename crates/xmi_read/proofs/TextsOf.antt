@@ -19,7 +19,7 @@ use Rattle.ecore_outline.specs.Enumerations.{is_literal_role, literal_text, lite
 use Rattle.ecore_names.specs.Types.{DataType, plain, typed_by, ecore_types, instance_types, named_types, own_type, foreign_type, type_of_target, local_type}
 use Rattle.ecore_rows.specs.Rows.{ByData, Foreign, Untyped, or_foreign, foreign_word, by_data, by_class, is_foreign_data, attribute_typed, reference_typed, attribute_child_typed, reference_child_typed, text_typed, child_typed, type_behind, typed}
 use Rattle.ecore_outline.specs.Texts.{AreAttributeTexts, IsElementText, AreTexts}
-use Rattle.xmi_read.specs.Texts.{HasTextDefault}
+use Rattle.xmi_read.specs.TypeTexts.{HasTextDefault}
 use Rattle.ecore_names.proofs.Targets.{then_some}
 
 -- ## Attributes

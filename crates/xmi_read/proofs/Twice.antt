@@ -14,11 +14,12 @@ use Rattle.ecore_outline.specs.Outline.{Entry, entry, is_package_role, is_class_
 use Rattle.ecore_outline.specs.Enumerations.{is_literal_role, literals_from, literals_of, literal_text}
 use Rattle.xmi_read.specs.Parts.{literal_of}
 use Rattle.ecore_outline.specs.Forms.{uri_of, prefix_of}
-use Rattle.xmi_read.specs.Faults.{first_fault, TwiceName, is_same_package, is_same_classifier, is_same_literal, classifier_twice}
+use Rattle.ecore_faults.specs.declared.fault.Kind.TheVariants.{TwiceName}
+use Rattle.ecore_faults.specs.Faults.{first_fault, is_same_package, is_same_classifier, is_same_literal, classifier_twice}
 use Rattle.xmi_text.proofs.Lists.{map-map}
 use Rattle.xmi_read.proofs.Naming.{differ}
-use Rattle.xmi_read.proofs.Roles.{packages, classes, enums, literals}
-use Rattle.xmi_read.proofs.Sound.{Fine, fine, not_when, else_parts}
+use Rattle.ecore_faults.proofs.Roles.{packages, classes, enums, literals}
+use Rattle.ecore_faults.proofs.Sound.{Fine, fine, not_when, else_parts}
 use Rattle.ecore_outline.proofs.Splits.{rows, RowAt, get_row, all_rows, pairs_of_rows, Meet, Same, Later, Earlier, meet}
 use Rattle.ecore_rows.proofs.RowLists.{map-rows}
 use Rattle.xmi_read.proofs.Tables.{tables, package_made, class_made, enum_made}

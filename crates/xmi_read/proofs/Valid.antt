@@ -5,7 +5,7 @@ use Rattle.doc_text.specs.declared.tree.Doc.{Doc}
 use Rattle.ecore_meta.specs.Valid.{ArePlaces, IsMetamodel}
 use Rattle.ecore_outline.specs.Outline.{Entry, outline, is_package_role, is_class_role}
 use Rattle.xmi_read.specs.Parts.{parts_of}
-use Rattle.xmi_read.specs.Faults.{first_fault}
+use Rattle.ecore_faults.specs.Faults.{first_fault}
 use Rattle.ecore_outline.proofs.Behind.{Behind, is_member_role, classes_behind, members_behind}
 use Rattle.xmi_read.proofs.Defaults.{kinds, defaults}
 use Rattle.xmi_read.proofs.Naming.{names}

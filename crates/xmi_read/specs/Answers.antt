@@ -7,7 +7,8 @@ use Rattle.ecore_meta.specs.declared.parts.Parts.{Parts}
 use Rattle.xmi_read.specs.declared.refusal.MetaRefusal.{MetaRefusal}
 use Rattle.xmi_read.specs.declared.refusal.MetaRefusal.TheVariants.{NotEcore, SubPackage, Generic, NoName, TwiceName, OtherFile, NoType, SuperCycle, BadOpposite, BadNumber, Document, Memory}
 use Rattle.ecore_outline.specs.Outline.{outline}
-use Rattle.xmi_read.specs.Faults.{Fault, first_fault, NotEcore as IsNotEcore, IsSubPackage, Generic as IsGeneric, NoName as HasNoName, TwiceName as IsTwiceName, OtherFile as IsOtherFile, NoType as HasNoType, SuperCycle as IsSuperCycle, BadOpposite as IsBadOpposite, BadNumber as IsBadNumber}
+use Rattle.ecore_faults.specs.declared.fault.Kind.TheVariants.{NotEcore as IsNotEcore, SubPackage as IsSubPackage, Generic as IsGeneric, NoName as HasNoName, TwiceName as IsTwiceName, OtherFile as IsOtherFile, NoType as HasNoType, SuperCycle as IsSuperCycle, BadOpposite as IsBadOpposite, BadNumber as IsBadNumber}
+use Rattle.ecore_faults.specs.Faults.{Fault, first_fault}
 use Rattle.xmi_read.specs.Parts.{parts_of}
 
 -- the first fault that a refusal tells; what is no fault of a document tells nothing that could be first

@@ -1,9 +1,5 @@
-pub mod Faults
 pub mod Parts
 pub mod Answers
-pub mod Tables
 pub mod Groups
-pub mod Texts
+pub mod TypeTexts
 pub mod Sizes
-pub mod FoundFaults
-pub mod Seen

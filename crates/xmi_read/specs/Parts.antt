@@ -19,7 +19,7 @@ use Rattle.ecore_outline.specs.Enumerations.{literals_of, literal_text}
 use Rattle.ecore_rows.specs.Rows.{ClassRow, class_rows, FeatureRow, feature_rows, Typed, ByData, ByClass}
 use Rattle.xmi_text.specs.Numbers.{is_many_upper}
 use Rattle.ecore_outline.specs.Forms.{uri_of, prefix_of}
-use Rattle.xmi_read.specs.Faults.{is_attribute_role}
+use Rattle.ecore_faults.specs.Faults.{is_attribute_role}
 
 abbrev pub class_no : ℕ → ClassId
 class_no n = record { 0 = n }

@@ -7,14 +7,14 @@ ghost use Rattle.ecore_outline.specs.Outline.{Entry as SomeEntry};
 ghost use Rattle.ecore_names.specs.References.{feature_named as feature_named_in};
 ghost use Rattle.ecore_rows.specs.Rows.{feature_rows as feature_rows_in};
 ghost use Rattle.xmi_text.specs.Numbers.{is_many_upper as is_many_upper_of};
-ghost use Rattle.xmi_read.specs.Faults.{is_attribute_role};
+ghost use Rattle.ecore_faults.specs.Faults.{is_attribute_role};
 ghost use Rattle.xmi_read.specs.Parts.{kept, opposite_of as opposite_of_entry, kind_of as kind_of_row, default_of as default_of_row, is_unique as is_unique_of, feature_of as feature_of_row};
 ghost use Rattle.ecore_outline.specs.Entries.{entry_of, entries_of};
 ghost use Rattle.ecore_names.specs.DataTypes.{kind_of as kind_of_data};
 ghost use Rattle.ecore_rows.specs.CodeRows.{typed_of, feature_row_of, feature_rows_of};
 ghost use Rattle.xmi_read.specs.Sizes.{IsSmallKind, IsSmallType};
 ghost use Rattle.ecore_outline.specs.Texts.{AreTexts};
-ghost use Rattle.xmi_read.specs.Texts.{HasTextDefault};
+ghost use Rattle.xmi_read.specs.TypeTexts.{HasTextDefault};
 
 use atl_base::numbers::{ClassId, FeatId};
 use atl_base::text::Text;

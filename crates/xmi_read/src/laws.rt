@@ -3,7 +3,7 @@ ghost use Rattle.std.specs.Prelude.{◌≡◌, ◌≤◌, None, length};
 ghost use Rattle.doc_text.specs.declared.tree.Doc.{Doc};
 ghost use Rattle.ecore_meta.specs.Valid.{IsMetamodel};
 ghost use Rattle.ecore_outline.specs.Outline.{outline};
-ghost use Rattle.xmi_read.specs.Faults.{first_fault};
+ghost use Rattle.ecore_faults.specs.Faults.{first_fault};
 ghost use Rattle.xmi_read.specs.Parts.{parts_of};
 ghost use Rattle.doc_text.specs.Sizes.{size};
 

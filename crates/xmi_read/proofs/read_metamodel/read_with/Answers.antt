@@ -1,10 +1,10 @@
 use Rattle.std.proofs.Common.{◌≡◌, sym, ap, ◌∙◌, subst}
 use Rattle.ecore_meta.specs.Valid.{IsMetamodel}
 use Rattle.ecore_outline.specs.Outline.{outline}
-use Rattle.xmi_read.specs.Faults.{first_fault}
+use Rattle.ecore_faults.specs.Faults.{first_fault}
 use Rattle.xmi_read.specs.Parts.{parts_of}
 use Rattle.ecore_outline.specs.Entries.{entries_of}
-use Rattle.xmi_read.specs.FoundFaults.{fault_of, told}
+use Rattle.ecore_faults.specs.FoundFaults.{fault_of, told}
 use Rattle.xmi_read.proofs.FaultTexts.{value_is_xml}
 use Rattle.xmi_read.proofs.Valid.{outline_valid}
 use Rattle.xmi_read.proofs.read_metamodel.read_with.Goals as goal

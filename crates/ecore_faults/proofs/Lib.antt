@@ -1,0 +1,5 @@
+pub mod Roles
+pub mod Sound
+pub mod TypesKnown
+pub mod Places
+pub mod SeenBefore

@@ -1,6 +1,0 @@
-use Rattle.std.proofs.Common.{◌≡◌, drop, map}
-use Rattle.ecore_rows.specs.Rows.{foreign_word}
-use Rattle.xmi_read.proofs.type_fault.foreign_word.Given as goal
-
-abbrev pub invariant-loop-i : goal.invariant-loop-i
-invariant-loop-i l = foreign_word (map (λ w. w.now) (drop l.i l.words)) ≡ foreign_word (map (λ w. w.now) l.words)

@@ -1,9 +1,0 @@
--- What can be read of a file is text: names, and the names and values of attributes.
-use Rattle.atl_base.specs.XmlText.{IsXmlText}
-use Rattle.xmi_text.specs.Markup.{or_empty}
-use Rattle.ecore_rows.specs.Rows.{Typed, ByData}
-
--- the default that a type gives
-abbrev pub HasTextDefault : Typed → Type 0
-HasTextDefault (ByData t) = IsXmlText (or_empty t.default)
-HasTextDefault t = Unit {0}
