@@ -24,13 +24,13 @@ use Rattle.ocl_parse.specs.declared.sign.Sign.TheVariants as S
 use Rattle.ocl_parse.specs.declared.symbol.Symbol.TheVariants as T
 use Rattle.ocl_parse.specs.declared.frame.Next.TheVariants as N
 use Rattle.ocl_parse.specs.Grammar.{tree_of, Basic, Class, Coll, kind_of}
-use Rattle.module_parse.specs.declared.keyword.Keyword.TheVariants as W
-use Rattle.module_parse.specs.Marks.{Content, Word, Shared, Mark, word, sign, called, expression, kind_marks}
-use Rattle.module_parse.specs.Parts.{module_of, with_item, class, target, rule, bare, with_target, Modifier, Abstract, Unique, Lazy, Modifiers, has, with_modifier, may_stand, sort_of}
-use Rattle.module_parse.specs.Grammar.{Models, OneModel, MoreModels, Params, OneParam, MoreParams, Bracketed, NoParams, SomeParams, Context, NoContext, InContext, Signature, Attribute, Operation, WrittenHelper, Define, Words, NoWords, MoreWords, Parent, NoParent, Extends, Sources, OneSource, MoreSources, Guard, NoGuard, SomeGuard, Locals, NoLocals, MoreLocals, Using, NoUsing, SomeUsing, Binds, OneBind, MoreBinds, BindList, NoList, EmptyList, SomeBinds, Targets, OneTarget, MoreTargets, To, NoTo, SomeTo, WrittenStat, Eval, Assign, If, IfElse, For, Stats, NoStats, MoreStats, Block, NoBlock, SomeBlock, Start, NoStart, Entry, End, WrittenRule, Matched, Called, WrittenItem, Help, Make, Items, NoItems, MoreItems, WrittenModule, Composed}
-use Rattle.module_parse.specs.Grammar.{models_marks, params_marks, bracketed_marks, context_marks, signature_marks, helper_marks, modifier, words_marks, parent_marks, sources_marks, guard_marks, locals_marks, binds_marks, list_marks, targets_marks, to_marks, stat_marks, stats_marks, block_marks, start_marks, rest_marks, rule_marks, item_marks, items_marks, module_marks}
-use Rattle.module_parse.specs.Grammar.{models, params, bracketed, context, signature, helper_of, modifiers, parent, sources, guard, locals, using, binds, bind_list, targets, to, stat, stats, block, start, rule_of, item, items, module_tree}
-use Rattle.module_parse.specs.Grammar.{ContextFits, WordsFit, StartFits, HelperFits, GuardFits, LocalsFit, UsingFits, BindsFit, ListFits, TargetsFit, ToFits, StatFits, StatsFit, BlockFits, RestFits, RuleFits, ItemFits, ItemsFit, ModuleFits, IsModule}
+use Rattle.module_grammar.specs.declared.keyword.Keyword.TheVariants as W
+use Rattle.module_grammar.specs.Marks.{Content, Word, Shared, Mark, word, sign, called, expression, kind_marks}
+use Rattle.module_grammar.specs.Parts.{module_of, with_item, class, target, rule, bare, with_target, Modifier, Abstract, Unique, Lazy, Modifiers, has, with_modifier, may_stand, sort_of}
+use Rattle.module_grammar.specs.Grammar.{Models, OneModel, MoreModels, Params, OneParam, MoreParams, Bracketed, NoParams, SomeParams, Context, NoContext, InContext, Signature, Attribute, Operation, WrittenHelper, Define, Words, NoWords, MoreWords, Parent, NoParent, Extends, Sources, OneSource, MoreSources, Guard, NoGuard, SomeGuard, Locals, NoLocals, MoreLocals, Using, NoUsing, SomeUsing, Binds, OneBind, MoreBinds, BindList, NoList, EmptyList, SomeBinds, Targets, OneTarget, MoreTargets, To, NoTo, SomeTo, WrittenStat, Eval, Assign, If, IfElse, For, Stats, NoStats, MoreStats, Block, NoBlock, SomeBlock, Start, NoStart, Entry, End, WrittenRule, Matched, Called, WrittenItem, Help, Make, Items, NoItems, MoreItems, WrittenModule, Composed}
+use Rattle.module_grammar.specs.Grammar.{models_marks, params_marks, bracketed_marks, context_marks, signature_marks, helper_marks, modifier, words_marks, parent_marks, sources_marks, guard_marks, locals_marks, binds_marks, list_marks, targets_marks, to_marks, stat_marks, stats_marks, block_marks, start_marks, rest_marks, rule_marks, item_marks, items_marks, module_marks}
+use Rattle.module_grammar.specs.Grammar.{models, params, bracketed, context, signature, helper_of, modifiers, parent, sources, guard, locals, using, binds, bind_list, targets, to, stat, stats, block, start, rule_of, item, items, module_tree}
+use Rattle.module_grammar.specs.Grammar.{ContextFits, WordsFit, StartFits, HelperFits, GuardFits, LocalsFit, UsingFits, BindsFit, ListFits, TargetsFit, ToFits, StatFits, StatsFit, BlockFits, RestFits, RuleFits, ItemFits, ItemsFit, ModuleFits, IsModule}
 use Rattle.module_parse.specs.Machine.{ForTargets, ForSources, Owner, OfHelper, OfRule, ForParam, ForResult, ForLocalKind, Blocks, InDo, InIf, InElse, InFor, ForBody, ForGuard, ForLocal, ForBind, ForStat, ForAssigned, ForCondition, ForValues, Form, Plain, Modified}
 use Rattle.module_parse.specs.Machine.{AtModel, AtModelEnd, AtItem, AtHelper, AtDefColon, AtSignature, AtFirstParam, AtParam, InKind, AtWord, AtRuleName, AtRuleOpen, AtCalledBrace, AtFrom, AtSource, AtSourceEnd, AtRest, AtLocal, AtTo, AtTarget, AtBinds, AtFirstBind, AtBind, AtTargetEnd, AtStat}
 use Rattle.module_parse.specs.Machine.{Goes, Refuses, comma_or_close, with_all, target_end, at_binds, Read, after, run, read}

@@ -6,7 +6,7 @@ use Rattle.ocl_parse.specs.declared.sign.Sign.TheVariants as S
 use Rattle.ocl_parse.specs.declared.symbol.Symbol.{Symbol}
 use Rattle.ocl_parse.specs.declared.symbol.Symbol.TheVariants as T
 use Rattle.ocl_parse.specs.Symbols.{Lexeme, lexeme}
-use Rattle.module_parse.specs.Grammar.{begins_if}
+use Rattle.module_grammar.specs.Grammar.{begins_if}
 use Rattle.module_parse.proofs.Cutting.{head_same, tail_same}
 
 elsewhere : (s r : Symbol) (p q x y : Place) (ls ks : List Lexeme) → begins_if (lexeme p s ∷ lexeme q r ∷ ls) ≡ begins_if (lexeme x s ∷ lexeme y r ∷ ks)

@@ -27,13 +27,13 @@ use Rattle.ocl_parse.specs.Symbols.{Lexeme, lexeme}
 use Rattle.ocl_parse.specs.Grammar.{fixed, Written, spelt, tree_of, kind_of}
 use Rattle.ocl_parse.specs.TooDeep.{or_else, behind, size}
 use Rattle.ocl_parse.proofs.Breaks.{IsThere, split, neither, counted, uncounted, Opening, Opens, opens_with, fits}
-use Rattle.module_parse.specs.declared.keyword.Keyword.TheVariants as W
-use Rattle.module_parse.specs.Marks.{Content, Word, Shared, Mark, word, sign, called, shared, expression, kind_marks}
-use Rattle.module_parse.specs.Parts.{module_of, class, target, rule, bare, sort_of}
-use Rattle.module_parse.specs.Grammar.{WrittenHelper, Define, Guard, NoGuard, SomeGuard, Locals, NoLocals, MoreLocals, Using, NoUsing, SomeUsing, Binds, OneBind, MoreBinds, BindList, NoList, EmptyList, SomeBinds, Targets, OneTarget, MoreTargets, To, NoTo, SomeTo, WrittenStat, Eval, Assign, If, IfElse, For, Stats, NoStats, MoreStats, Block, NoBlock, SomeBlock, WrittenRule, Matched, Called, WrittenItem, Help, Make, Items, NoItems, MoreItems, WrittenModule, Composed}
-use Rattle.module_parse.specs.Grammar.{models_marks, bracketed_marks, context_marks, signature_marks, helper_marks, words_marks, parent_marks, sources_marks, guard_marks, locals_marks, using_marks, binds_marks, list_marks, targets_marks, to_marks, stat_marks, stats_marks, block_marks, start_marks, rest_marks, rule_marks, item_marks, items_marks, module_marks}
-use Rattle.module_parse.specs.Grammar.{models, bracketed, context, signature, modifiers, parent, sources, locals, binds, targets, stats, start, items}
-use Rattle.module_parse.specs.Grammar.{begins_if, Whole, HelperFits, GuardFits, LocalsFit, UsingFits, BindsFit, ListFits, TargetsFit, ToFits, StatFits, StatsFit, BlockFits, RestFits, RuleFits, ItemFits, ItemsFit, ModuleFits}
+use Rattle.module_grammar.specs.declared.keyword.Keyword.TheVariants as W
+use Rattle.module_grammar.specs.Marks.{Content, Word, Shared, Mark, word, sign, called, shared, expression, kind_marks}
+use Rattle.module_grammar.specs.Parts.{module_of, class, target, rule, bare, sort_of}
+use Rattle.module_grammar.specs.Grammar.{WrittenHelper, Define, Guard, NoGuard, SomeGuard, Locals, NoLocals, MoreLocals, Using, NoUsing, SomeUsing, Binds, OneBind, MoreBinds, BindList, NoList, EmptyList, SomeBinds, Targets, OneTarget, MoreTargets, To, NoTo, SomeTo, WrittenStat, Eval, Assign, If, IfElse, For, Stats, NoStats, MoreStats, Block, NoBlock, SomeBlock, WrittenRule, Matched, Called, WrittenItem, Help, Make, Items, NoItems, MoreItems, WrittenModule, Composed}
+use Rattle.module_grammar.specs.Grammar.{models_marks, bracketed_marks, context_marks, signature_marks, helper_marks, words_marks, parent_marks, sources_marks, guard_marks, locals_marks, using_marks, binds_marks, list_marks, targets_marks, to_marks, stat_marks, stats_marks, block_marks, start_marks, rest_marks, rule_marks, item_marks, items_marks, module_marks}
+use Rattle.module_grammar.specs.Grammar.{models, bracketed, context, signature, modifiers, parent, sources, locals, binds, targets, stats, start, items}
+use Rattle.module_grammar.specs.Grammar.{begins_if, Whole, HelperFits, GuardFits, LocalsFit, UsingFits, BindsFit, ListFits, TargetsFit, ToFits, StatFits, StatsFit, BlockFits, RestFits, RuleFits, ItemFits, ItemsFit, ModuleFits}
 use Rattle.module_parse.specs.Machine.{ForSources, ForResult, ForLocalKind, Blocks, InDo, InIf, InElse, InFor, ForBody, ForGuard, ForLocal, ForBind, ForStat, ForAssigned, ForCondition, ForValues}
 use Rattle.module_parse.specs.Machine.{State, AtStart, AtModel, AtItem, AtSignature, InKind, InExpr, AtSource, AtSourceEnd, AtRest, AtLocal, AtTo, AtTarget, AtBinds, AtFirstBind, AtBind, AtRuleOpen, AtStat, AtIf, run}
 use Rattle.module_parse.specs.TooDeep.{whole, helper_deep, guard_deep, locals_deep, using_deep, binds_deep, list_deep, targets_deep, to_deep, stat_deep, stats_deep, block_deep, rest_deep, rule_deep, item_deep, items_deep, deep_in}

@@ -12,8 +12,8 @@ use Rattle.ocl_parse.specs.declared.frame.Next.TheVariants as N
 use Rattle.ocl_parse.specs.declared.sign.Ender.TheVariants as E
 use Rattle.ocl_parse.specs.declared.sign.Sign.TheVariants as S
 use Rattle.ocl_parse.specs.declared.symbol.Symbol.TheVariants.{Fixed}
-use Rattle.module_parse.specs.declared.keyword.Keyword.TheVariants as W
-use Rattle.module_parse.specs.Marks.{Content, Word, Shared}
+use Rattle.module_grammar.specs.declared.keyword.Keyword.TheVariants as W
+use Rattle.module_grammar.specs.Marks.{Content, Word, Shared}
 use Rattle.module_parse.specs.Machine.{Blocks, Goes, Refuses, AtElseBrace, AtFor, AtIf, AtUsing, ForCondition, ForContext, ForStat, InExpr, at_context, at_else, at_if, at_rest, at_stat, at_to, block_end, in_expr, in_kind}
 use Rattle.module_parse.specs.Nexts.{is_coll, is_else, is_open, is_using, opening_of}
 use Rattle.module_parse.specs.declared.reading.next.Opening.TheVariants as Q

@@ -4,8 +4,8 @@ use Rattle.std.specs.Prelude.{true, false, Some}
 use Rattle.std.proofs.lemmas.List.{append-nil}
 use Rattle.atl_base.specs.declared.place.Place.{Place}
 use Rattle.ocl_parse.proofs.Found.{Cuts, cuts, head_or, tail_of}
-use Rattle.module_parse.specs.Marks.{Mark}
-use Rattle.module_parse.specs.Grammar.{WrittenModule, ModuleFits, module_marks}
+use Rattle.module_grammar.specs.Marks.{Mark}
+use Rattle.module_grammar.specs.Grammar.{WrittenModule, ModuleFits, module_marks}
 use Rattle.module_parse.specs.TooDeep.{deep_in}
 use Rattle.module_parse.specs.Machine.{State, AtStart, step, Expected, Deep, after, run, read}
 use Rattle.module_parse.specs.Laws.{Matches}

@@ -22,9 +22,9 @@ use Rattle.ocl_parse.specs.declared.sign.Sign.TheVariants as S
 use Rattle.atl_tree.specs.declared.expr.BinaryOp.TheVariants as O
 use Rattle.ocl_parse.specs.Trees.{name}
 use Rattle.ocl_parse.specs.Grammar.{kind_spelt}
-use Rattle.module_parse.specs.declared.keyword.Keyword.TheVariants as W
-use Rattle.module_parse.specs.Marks.{Mark, word, sign, called, expression, kind_marks}
-use Rattle.module_parse.specs.Grammar.{Models, MoreModels, Params, OneParam, MoreParams, Sources, MoreSources, Locals, NoLocals, MoreLocals, Binds, OneBind, MoreBinds, Targets, OneTarget, MoreTargets, Items, NoItems, MoreItems, Words, Start, models_marks, params_marks, bracketed_marks, context_marks, signature_marks, helper_marks, words_marks, parent_marks, sources_marks, guard_marks, locals_marks, using_marks, binds_marks, list_marks, targets_marks, to_marks, block_marks, start_marks, rule_marks, item_marks}
+use Rattle.module_grammar.specs.declared.keyword.Keyword.TheVariants as W
+use Rattle.module_grammar.specs.Marks.{Mark, word, sign, called, expression, kind_marks}
+use Rattle.module_grammar.specs.Grammar.{Models, MoreModels, Params, OneParam, MoreParams, Sources, MoreSources, Locals, NoLocals, MoreLocals, Binds, OneBind, MoreBinds, Targets, OneTarget, MoreTargets, Items, NoItems, MoreItems, Words, Start, models_marks, params_marks, bracketed_marks, context_marks, signature_marks, helper_marks, words_marks, parent_marks, sources_marks, guard_marks, locals_marks, using_marks, binds_marks, list_marks, targets_marks, to_marks, block_marks, start_marks, rule_marks, item_marks}
 use Rattle.module_parse.specs.Writing.{here, name_here, kind_written, whole_written, models_written, more_models, more_params, bracketed_written, context_written, signature_written, helper_written, abstract_words, sort_words, parent_written, more_sources, sources_written, guard_written, more_locals, using_written, more_binds, list_written, more_targets, to_written, block_written, called_written, matched_written, item_written, more_items}
 use Rattle.module_parse.specs.Printed.{name_text, mark_text, line_text, items_text, printed}
 use Rattle.module_parse.specs.Pending.{spaced, kind_text, expr_text, stat_text}

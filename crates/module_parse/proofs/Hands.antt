@@ -9,8 +9,8 @@ use Rattle.ocl_parse.specs.Machine.{step as step_inside, last as last_inside, ov
 use Rattle.ocl_parse.proofs.Fine.{over_any}
 use Rattle.ocl_parse.specs.declared.frame.Frame.TheVariants as F
 use Rattle.ocl_parse.specs.Trees.{binary, unary, within}
-use Rattle.module_parse.specs.declared.keyword.Keyword.TheVariants as W
-use Rattle.module_parse.specs.Marks.{Content, Word, Mark, symbol}
+use Rattle.module_grammar.specs.declared.keyword.Keyword.TheVariants as W
+use Rattle.module_grammar.specs.Marks.{Content, Word, Mark, symbol}
 use Rattle.module_parse.specs.Machine.{ForExpr, ForStat, InExpr, Step, expr_end, whole, expr_goes, assigns, End, Expected, Deep, too_deep, after, run}
 use Rattle.module_parse.specs.Laws.{inner}
 use Rattle.module_parse.proofs.Inside.{over_rest, rest_of}

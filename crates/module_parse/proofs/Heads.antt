@@ -14,7 +14,7 @@ use Rattle.ocl_parse.specs.Symbols.{Lexeme}
 use Rattle.ocl_parse.specs.Grammar.{Written, Number, Words, Lone, Literal, Variable, OfClass, OfBasic, Elements, If, Round, Let, Unary, Binary, Read, Call, Loop, Iterate, spelt, listed, fixed, named, unary_sign, dot_or_arrow, kind_spelt, Arguments, Kind}
 use Rattle.module_parse.specs.Writing.{here, truth, what_written, expr_written}
 use Rattle.module_parse.proofs.Writings.{expr_is}
-use Rattle.module_parse.specs.Grammar.{begins_if}
+use Rattle.module_grammar.specs.Grammar.{begins_if}
 use Rattle.module_parse.specs.Pending.{begins_open, begun, bare}
 
 pub opens_as : (w : Written) (ys : List Lexeme) → begins_open (spelt w ++ ys) ≡ begins_open (spelt w)

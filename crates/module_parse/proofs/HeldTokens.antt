@@ -19,9 +19,9 @@ use Rattle.ocl_parse.specs.declared.symbol.Symbol.TheVariants.{Fixed}
 use Rattle.ocl_parse.specs.Signs.{word as sign_of, mark as mark_of}
 use Rattle.ocl_parse.specs.Symbols.{unquoted, resolved_char, resolved_from, at_most, value_of, fixed_or_name}
 use Rattle.ocl_parse.proofs.Resolving.{resolved_plain, resolved_backslash, resolved_behind, resolved_quote}
-use Rattle.module_parse.specs.declared.keyword.Keyword.{Keyword}
-use Rattle.module_parse.specs.Keywords.{keyword, arrow}
-use Rattle.module_parse.specs.Marks.{word_or, content_of, marks}
+use Rattle.module_grammar.specs.declared.keyword.Keyword.{Keyword}
+use Rattle.module_grammar.specs.Keywords.{keyword, arrow}
+use Rattle.module_grammar.specs.Marks.{word_or, content_of, marks}
 use Rattle.module_parse.specs.Held.{IsNameText, IsWordsText, IsHeld, AreHeld}
 use Rattle.module_parse.proofs.ReadNames.{quoted_outside}
 

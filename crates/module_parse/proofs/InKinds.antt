@@ -8,7 +8,7 @@ use Rattle.ocl_parse.specs.declared.frame.Frame.{Frame}
 use Rattle.ocl_parse.specs.declared.frame.Next.{Next}
 use Rattle.ocl_parse.specs.declared.frame.Next.TheVariants as N
 use Rattle.ocl_parse.specs.Machine.{step}
-use Rattle.module_parse.specs.Marks.{Content, symbol}
+use Rattle.module_grammar.specs.Marks.{Content, symbol}
 use Rattle.module_parse.specs.Machine.{ForKind, ForContext, in_kind, kind_goes}
 use Rattle.module_parse.specs.Nexts.{step_of}
 use Rattle.module_parse.specs.declared.reading.next.Move.{Move}

@@ -20,9 +20,9 @@ use Rattle.ocl_parse.specs.Trees.{binary, unary, variable, feature, within}
 use Rattle.ocl_parse.specs.Grammar.{fixed, Kind, Basic, Class, Coll, kind_spelt, kind_of, Written, spelt, tree_of}
 use Rattle.ocl_parse.specs.Machine.{closed, at, step as step_inside, last as last_inside, over, ended, after as after_inside, run as run_inside, Step as StepInside, Goes as GoesInside, Stops as StopsInside, Refuses as RefusesInside, TooDeep as TooDeepInside, End as EndInside, Read as ReadInside, Expected as ExpectedInside, Deep as DeepInside}
 use Rattle.ocl_parse.proofs.Accepts.{reads}
-use Rattle.module_parse.specs.declared.keyword.Keyword.TheVariants as W
-use Rattle.module_parse.specs.Marks.{Content, Shared, Mark, word, sign, called, shared, expression, kind_marks}
-use Rattle.module_parse.specs.Grammar.{Whole}
+use Rattle.module_grammar.specs.declared.keyword.Keyword.TheVariants as W
+use Rattle.module_grammar.specs.Marks.{Content, Shared, Mark, word, sign, called, shared, expression, kind_marks}
+use Rattle.module_grammar.specs.Grammar.{Whole}
 use Rattle.module_parse.specs.Machine.{Blocks, ForKind, ForExpr, ForStat, ForAssigned, InKind, InExpr, Goes, expr_end, whole, expr_goes, in_expr, after, run}
 use Rattle.atl_tree.specs.declared.module.Stat.{Stat}
 

@@ -5,8 +5,8 @@ use Rattle.std.proofs.lemmas.List.{append-nil}
 use Rattle.atl_base.specs.declared.place.Place.{Place}
 use Rattle.atl_tree.specs.declared.module.Module.{Module}
 use Rattle.ocl_parse.proofs.Found.{cuts, head_or, tail_of}
-use Rattle.module_parse.specs.Marks.{Mark}
-use Rattle.module_parse.specs.Grammar.{module_tree, IsModule}
+use Rattle.module_grammar.specs.Marks.{Mark}
+use Rattle.module_grammar.specs.Grammar.{module_tree, IsModule}
 use Rattle.module_parse.specs.Machine.{Read, Expected, Deep}
 use Rattle.module_parse.specs.Laws.{StopsAt, Matches, Tells}
 

@@ -15,7 +15,7 @@ use Rattle.module_parse.proofs.Layers.{iterate_is_plain}
 use Rattle.module_parse.specs.Writing.{here, more, expr_written}
 use Rattle.module_parse.specs.declared.print.part.Part.{Part}
 use Rattle.module_parse.specs.declared.print.part.Part.TheVariants as P
-use Rattle.module_parse.specs.Marks.{Mark, shared}
+use Rattle.module_grammar.specs.Marks.{Mark, shared}
 use Rattle.module_parse.specs.Printed.{symbol_text, mark_text, sign_text, keyword_text, name_text, words_text, coll_text}
 use Rattle.module_parse.specs.Pending.{kind_text, expr_text, elements_text, others_text, stat_text, work, spaced, spelling, put, pending, single, extra, singles, extras, Opens}
 

@@ -11,7 +11,7 @@ use Rattle.atl_tree.specs.declared.token.Tokens.{Tokens}
 use Rattle.ocl_parse.specs.declared.refusal.ParseRefusal.{ParseRefusal}
 use Rattle.ocl_parse.specs.declared.refusal.ParseRefusal.TheVariants as R
 use Rattle.atl_tree.specs.Tokens.{Fails as FailsToCut}
-use Rattle.module_parse.specs.Marks.{marks}
+use Rattle.module_grammar.specs.Marks.{marks}
 use Rattle.module_parse.specs.Machine.{State, End, finish, read, run}
 use Rattle.module_parse.specs.Reading.{first_refusal, module_in, parsed, told, Fails, Gives}
 

@@ -20,10 +20,10 @@ use Rattle.ocl_parse.specs.declared.sign.Sign.{Sign}
 use Rattle.ocl_parse.specs.declared.sign.Sign.TheVariants as S
 use Rattle.ocl_parse.specs.declared.symbol.Symbol.TheVariants.{Fixed}
 use Rattle.ocl_parse.specs.Signs as G
-use Rattle.module_parse.specs.declared.keyword.Keyword.{Keyword}
-use Rattle.module_parse.specs.declared.keyword.Keyword.TheVariants as W
-use Rattle.module_parse.specs.Keywords as K
-use Rattle.module_parse.specs.Marks.{Content, Word, Shared, content_of}
+use Rattle.module_grammar.specs.declared.keyword.Keyword.{Keyword}
+use Rattle.module_grammar.specs.declared.keyword.Keyword.TheVariants as W
+use Rattle.module_grammar.specs.Keywords as K
+use Rattle.module_grammar.specs.Marks.{Content, Word, Shared, content_of}
 use Rattle.module_parse.specs.Printed.{mark_text}
 use Rattle.module_parse.proofs.Spacing.{is_lead, is_gives, is_name, IsSign}
 use Rattle.module_parse.proofs.Tokened.{Reads}

@@ -21,10 +21,10 @@ use Rattle.ocl_parse.specs.Signs as G
 use Rattle.ocl_parse.specs.Signs.{word as sign_of}
 use Rattle.ocl_parse.specs.Symbols.{unquoted, resolved_from, fixed_or_name}
 use Rattle.ocl_parse.proofs.Resolving.{unquoted_stays}
-use Rattle.module_parse.specs.declared.keyword.Keyword.{Keyword}
-use Rattle.module_parse.specs.Keywords as K
-use Rattle.module_parse.specs.Keywords.{find, keyword}
-use Rattle.module_parse.specs.Marks.{Shared, word_or, content_of}
+use Rattle.module_grammar.specs.declared.keyword.Keyword.{Keyword}
+use Rattle.module_grammar.specs.Keywords as K
+use Rattle.module_grammar.specs.Keywords.{find, keyword}
+use Rattle.module_grammar.specs.Marks.{Shared, word_or, content_of}
 use Rattle.module_parse.specs.Printed.{is_plain, name_text, escaped, words_text}
 use Rattle.module_parse.proofs.Escaping.{itself, escaped_ascii, escaped_wide}
 use Rattle.module_parse.proofs.Tokened.{Reads}

@@ -15,8 +15,8 @@ use Rattle.atl_tree.specs.declared.module.Stat.{Stat}
 use Rattle.atl_tree.specs.declared.module.Stat.TheVariants as A
 use Rattle.ocl_parse.specs.Signs as G
 use Rattle.ocl_parse.specs.Trees.{name, expr}
-use Rattle.module_parse.specs.Keywords as K
-use Rattle.module_parse.specs.Parts.{model, module_of, rule}
+use Rattle.module_grammar.specs.Keywords as K
+use Rattle.module_grammar.specs.Parts.{model, module_of, rule}
 use Rattle.module_parse.specs.Reading.{module_in}
 
 -- a token of the first line, at a column

@@ -9,8 +9,8 @@ use Rattle.atl_tree.specs.declared.module.Module.{Module}
 use Rattle.atl_tree.specs.Front.{front_of}
 use Rattle.atl_tree.specs.Tokens.{tokens_of}
 use Rattle.ocl_parse.specs.declared.refusal.ParseRefusal.{ParseRefusal}
-use Rattle.module_parse.specs.Marks.{marks}
-use Rattle.module_parse.specs.Grammar.{WrittenModule, ModuleFits, IsModule, module_tree}
+use Rattle.module_grammar.specs.Marks.{marks}
+use Rattle.module_grammar.specs.Grammar.{WrittenModule, ModuleFits, IsModule, module_tree}
 use Rattle.module_parse.specs.Machine.{End, Read, Expected, Deep, read}
 use Rattle.module_parse.specs.Writing.{module_written}
 use Rattle.module_parse.specs.Places.{placed_module}

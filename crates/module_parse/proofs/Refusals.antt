@@ -6,7 +6,7 @@ use Rattle.atl_tree.specs.declared.token.TokenSort.TheVariants as T
 use Rattle.atl_tree.specs.Tokens.{token, place}
 use Rattle.ocl_parse.specs.Signs as G
 use Rattle.ocl_parse.specs.declared.refusal.ParseRefusal.TheVariants as R
-use Rattle.module_parse.specs.Keywords as K
+use Rattle.module_grammar.specs.Keywords as K
 use Rattle.module_parse.specs.Reading.{module_in}
 
 -- a token of the first line, at a column

@@ -13,10 +13,10 @@ use Rattle.atl_tree.specs.declared.module.Item.TheVariants as I
 use Rattle.atl_tree.specs.declared.module.Module.{Module}
 use Rattle.ocl_parse.specs.Signs as G
 use Rattle.ocl_parse.specs.Trees.{name, expr}
-use Rattle.module_parse.specs.Parts.{model, module_of, class, pattern, target, bind, rule}
+use Rattle.module_grammar.specs.Parts.{model, module_of, class, pattern, target, bind, rule}
 use Rattle.ocl_parse.specs.Grammar.{Read, Variable}
 use Rattle.module_parse.specs.Writing.{here, expr_written, whole_written}
-use Rattle.module_parse.specs.Marks.{expression}
+use Rattle.module_grammar.specs.Marks.{expression}
 use Rattle.module_parse.specs.Printed.{name_text, words_text, line_text, printed}
 use Rattle.module_parse.proofs.Writings.{variable_is, read_is, binary_is}
 

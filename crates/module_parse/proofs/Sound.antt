@@ -23,13 +23,13 @@ use Rattle.atl_tree.specs.declared.kind.KindSort.TheVariants as Q
 use Rattle.ocl_parse.specs.declared.symbol.Symbol.TheVariants as T
 use Rattle.ocl_parse.specs.Trees.{name, kind}
 use Rattle.ocl_parse.specs.Grammar.{fixed, kind_spelt, Written, tree_of, Kind, Basic, Class, Coll, kind_of}
-use Rattle.module_parse.specs.declared.keyword.Keyword.TheVariants as W
-use Rattle.module_parse.specs.Marks.{Content, Word, Shared, Mark, mark, word, sign, called, shared, expression, kind_marks}
-use Rattle.module_parse.specs.Parts.{model, module_of, with_item, param, class, pattern, target, bind, rule, with_params}
-use Rattle.module_parse.specs.Grammar.{Models, OneModel, MoreModels, Params, OneParam, MoreParams, Bracketed, NoParams, SomeParams, InContext, Operation, Sources, OneSource, MoreSources, Binds, OneBind, MoreBinds, BindList, Targets, OneTarget, MoreTargets, Start, NoStart, Entry, End, WrittenItem, NoItems, MoreItems, WrittenModule, Composed}
-use Rattle.module_parse.specs.Grammar.{models_marks, params_marks, bracketed_marks, sources_marks, binds_marks, list_marks, targets_marks, item_marks, items_marks, module_marks}
-use Rattle.module_parse.specs.Grammar.{models, params, bracketed, sources, binds, bind_list, targets, item, module_tree}
-use Rattle.module_parse.specs.Grammar.{StartFits, ItemFits, ModuleFits}
+use Rattle.module_grammar.specs.declared.keyword.Keyword.TheVariants as W
+use Rattle.module_grammar.specs.Marks.{Content, Word, Shared, Mark, mark, word, sign, called, shared, expression, kind_marks}
+use Rattle.module_grammar.specs.Parts.{model, module_of, with_item, param, class, pattern, target, bind, rule, with_params}
+use Rattle.module_grammar.specs.Grammar.{Models, OneModel, MoreModels, Params, OneParam, MoreParams, Bracketed, NoParams, SomeParams, InContext, Operation, Sources, OneSource, MoreSources, Binds, OneBind, MoreBinds, BindList, Targets, OneTarget, MoreTargets, Start, NoStart, Entry, End, WrittenItem, NoItems, MoreItems, WrittenModule, Composed}
+use Rattle.module_grammar.specs.Grammar.{models_marks, params_marks, bracketed_marks, sources_marks, binds_marks, list_marks, targets_marks, item_marks, items_marks, module_marks}
+use Rattle.module_grammar.specs.Grammar.{models, params, bracketed, sources, binds, bind_list, targets, item, module_tree}
+use Rattle.module_grammar.specs.Grammar.{StartFits, ItemFits, ModuleFits}
 use Rattle.module_parse.specs.Machine.{Models as ModelsRead, ForTargets, ForSources, Owner, OfHelper, OfRule, ForKind, ForContext, ForParam, ForResult, ForLocalKind, AtModelEnd, AtContext, declared, model_end, with_all, kind_end, in_kind, at_context}
 use Rattle.module_parse.proofs.Stands.{upto, got, Front, FromSources, FromParams, front_rule, completed, ModuleHead, BeforeModel, OwnerHead, Free, KindFits, StandsKind, Stands, StepStands}
 

@@ -24,15 +24,15 @@ use Rattle.ocl_parse.specs.Symbols.{lexeme}
 use Rattle.ocl_parse.specs.Trees.{name, variable}
 use Rattle.ocl_parse.specs.Grammar.{fixed, named, Written, spelt, tree_of, kind_of}
 use Rattle.ocl_parse.proofs.Sound.{Stands as StandsInside}
-use Rattle.module_parse.specs.declared.keyword.Keyword.{Keyword}
-use Rattle.module_parse.specs.declared.keyword.Keyword.TheVariants as W
+use Rattle.module_grammar.specs.declared.keyword.Keyword.{Keyword}
+use Rattle.module_grammar.specs.declared.keyword.Keyword.TheVariants as W
 use Rattle.atl_tree.specs.declared.module.Stat.TheVariants as A
-use Rattle.module_parse.specs.Marks.{Content, Word, Shared, Mark, mark, word, sign, called, shared, expression, kind_marks}
-use Rattle.module_parse.specs.Parts.{with_item, helper, with_block}
-use Rattle.module_parse.specs.Grammar.{NoParams, NoContext, Attribute, Define, WrittenStat, Eval, Assign, If, IfElse, For, NoStats, MoreStats, SomeBlock, Help}
-use Rattle.module_parse.specs.Grammar.{context_marks, signature_marks, stat_marks, stats_marks, module_marks}
-use Rattle.module_parse.specs.Grammar.{signature, using, to, stat, stats}
-use Rattle.module_parse.specs.Grammar.{begins_if, Whole, StatFits, IsModule}
+use Rattle.module_grammar.specs.Marks.{Content, Word, Shared, Mark, mark, word, sign, called, shared, expression, kind_marks}
+use Rattle.module_grammar.specs.Parts.{with_item, helper, with_block}
+use Rattle.module_grammar.specs.Grammar.{NoParams, NoContext, Attribute, Define, WrittenStat, Eval, Assign, If, IfElse, For, NoStats, MoreStats, SomeBlock, Help}
+use Rattle.module_grammar.specs.Grammar.{context_marks, signature_marks, stat_marks, stats_marks, module_marks}
+use Rattle.module_grammar.specs.Grammar.{signature, using, to, stat, stats}
+use Rattle.module_grammar.specs.Grammar.{begins_if, Whole, StatFits, IsModule}
 use Rattle.module_parse.specs.Machine.{Blocks, InDo, InIf, InElse, InFor, ForExpr, ForBody, ForGuard, ForLocal, ForBind, ForStat, ForAssigned, ForCondition, ForValues, State, AtStart, AtModuleName, AtModuleEnd, AtCreate, AtModel, AtModelColon, AtMeta, AtModelEnd, AtItem, AtHelper, AtContext, AtDefColon, AtHelperName, AtSignature, AtResultColon, AtFirstParam, AtParam, AtParamColon, InKind, InExpr, AtWord, AtRule, AtRuleName, AtRuleOpen, AtParent, AtBrace, AtNoParams, AtCalledBrace, AtFrom, AtSource, AtSourceColon, AtClass, AtBang, AtClassName, AtSourceEnd, AtRest, AtUsing, AtLocal, AtLocalColon, AtTo, AtTarget, AtTargetColon, AtBinds, AtFirstBind, AtBind, AtGives, AtTargetEnd, AtDo, AtRuleEnd, AtStat, AtIf, AtIfBrace, AtElse, AtElseBrace, AtFor, AtForName, AtForIn, AtForBrace, Step, Goes, Refuses, TooDeep, block_end, expr_end, whole, expr_goes, in_expr, at_stat, at_if, at_else, step, End as EndRead, Read, too_deep, finish, after, run}
 use Rattle.module_parse.proofs.Stands.{front_rule, completed, Told, ModuleHead, InBlock, ElseHead, ExprHead, Begun, Stands, StepStands}
 use Rattle.ocl_parse.specs.Depth.{deep, is_shallow}

@@ -3,8 +3,8 @@ use Rattle.std.specs.Prelude.{◌≡◌, ◌||◌, Bool, true, false, List, [], 
 use Rattle.ocl_parse.specs.declared.sign.Sign.{Sign as SomeSign}
 use Rattle.ocl_parse.specs.declared.sign.Sign.TheVariants as S
 use Rattle.ocl_parse.specs.declared.symbol.Symbol.TheVariants.{Number, Words, Name as Named, Fixed}
-use Rattle.module_parse.specs.declared.keyword.Keyword.TheVariants as W
-use Rattle.module_parse.specs.Marks.{Content, Word, Shared, Mark}
+use Rattle.module_grammar.specs.declared.keyword.Keyword.TheVariants as W
+use Rattle.module_grammar.specs.Marks.{Content, Word, Shared, Mark}
 use Rattle.module_parse.specs.Held.{IsNameText, IsWordsText, IsNumber}
 
 -- a word behind it is read as a name

@@ -12,9 +12,9 @@ use Rattle.ocl_parse.specs.declared.sign.Ender.TheVariants as E
 use Rattle.ocl_parse.specs.declared.sign.Sign.TheVariants as S
 use Rattle.ocl_parse.specs.Grammar.{Written, spelt}
 use Rattle.module_parse.specs.declared.print.part.Part.{Part}
-use Rattle.module_parse.specs.Marks.{Mark, sign}
+use Rattle.module_grammar.specs.Marks.{Mark, sign}
 use Rattle.module_parse.specs.Printed.{name_text}
-use Rattle.module_parse.specs.Grammar.{Stats, NoStats, MoreStats, Eval, Assign, If, IfElse, For, stat_marks, stats_marks, begins_if}
+use Rattle.module_grammar.specs.Grammar.{Stats, NoStats, MoreStats, Eval, Assign, If, IfElse, For, stat_marks, stats_marks, begins_if}
 use Rattle.module_parse.specs.Writing.{here, name_here, expr_written, whole_written, stat_layer, stat_written, more_stats, beginning, round_leftmost}
 use Rattle.module_parse.specs.Pending.{spaced, spelling, expr_text, stat_text, begun, branch_written, pending, singles, extras, Opens}
 use Rattle.module_parse.proofs.Opened.{spaced-append, spaced-shared}

@@ -16,8 +16,8 @@ use Rattle.ocl_parse.specs.Depth.{passes, is_shallow}
 use Rattle.ocl_parse.specs.Grammar.{fixed, Written, spelt, tree_of}
 use Rattle.ocl_parse.specs.Machine.{run as run_inside, Goes as GoesInside, Read as ReadInside, Expected as ExpectedInside}
 use Rattle.ocl_parse.proofs.Accepts.{starts}
-use Rattle.module_parse.specs.Marks.{Content, Shared, Mark, sign, shared, expression}
-use Rattle.module_parse.specs.Grammar.{begins_if, Whole}
+use Rattle.module_grammar.specs.Marks.{Content, Shared, Mark, sign, shared, expression}
+use Rattle.module_grammar.specs.Grammar.{begins_if, Whole}
 use Rattle.module_parse.specs.Machine.{Blocks, ForStat, InExpr, AtStat, AtIf, AtElse, run}
 use Rattle.module_parse.proofs.Inside.{got, read_alone}
 

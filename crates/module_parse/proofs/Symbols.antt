@@ -12,11 +12,11 @@ use Rattle.ocl_parse.specs.declared.symbol.Symbol.TheVariants.{Fixed}
 use Rattle.ocl_parse.specs.Signs as G
 use Rattle.ocl_parse.specs.Signs.{word as sign_of, mark as mark_of}
 use Rattle.ocl_parse.specs.Symbols.{lexeme, lexemes, symbol_of, fixed_or_name}
-use Rattle.module_parse.specs.declared.keyword.Keyword.{Keyword}
-use Rattle.module_parse.specs.declared.keyword.Keyword.TheVariants as W
-use Rattle.module_parse.specs.Keywords as K
-use Rattle.module_parse.specs.Keywords.{find, keyword, arrow}
-use Rattle.module_parse.specs.Marks.{symbol, word_or, content_of, marks}
+use Rattle.module_grammar.specs.declared.keyword.Keyword.{Keyword}
+use Rattle.module_grammar.specs.declared.keyword.Keyword.TheVariants as W
+use Rattle.module_grammar.specs.Keywords as K
+use Rattle.module_grammar.specs.Keywords.{find, keyword, arrow}
+use Rattle.module_grammar.specs.Marks.{symbol, word_or, content_of, marks}
 use Rattle.module_parse.specs.Laws.{inner}
 
 -- no expression has any of these

@@ -15,8 +15,8 @@ use Rattle.ocl_parse.specs.Machine.{step as step_inside, last as last_inside, ov
 use Rattle.ocl_parse.proofs.Halts.{place_at, IsSome, IsDeep as IsDeepInside, rest_of as rest_inside, over_rest, over_shallow}
 use Rattle.ocl_parse.proofs.Deeper.{OnlyDeep, stuck, stuck_only}
 use Rattle.ocl_parse.proofs.Breaks.{Broken as BrokenInside, tries}
-use Rattle.module_parse.specs.Marks.{Shared, Mark, shared, expression}
-use Rattle.module_parse.specs.Grammar.{Whole}
+use Rattle.module_grammar.specs.Marks.{Shared, Mark, shared, expression}
+use Rattle.module_grammar.specs.Grammar.{Whole}
 use Rattle.module_parse.specs.Machine.{ForExpr, State, InExpr, expr_goes, too_deep, Expected, Deep, after, run}
 use Rattle.module_parse.specs.Laws.{Matches}
 

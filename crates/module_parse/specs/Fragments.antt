@@ -12,7 +12,7 @@ use Rattle.atl_tree.specs.declared.module.LocalVar.{LocalVar}
 use Rattle.atl_tree.specs.declared.module.Target.{Target}
 use Rattle.atl_tree.specs.declared.module.Bind.{Bind}
 use Rattle.module_parse.specs.Printed.{name_text}
-use Rattle.module_parse.specs.Grammar.{models_marks, bracketed_marks, words_marks, parent_marks, using_marks, list_marks, to_marks, block_marks}
+use Rattle.module_grammar.specs.Grammar.{models_marks, bracketed_marks, words_marks, parent_marks, using_marks, list_marks, to_marks, block_marks}
 use Rattle.module_parse.specs.Writing.{models_written, bracketed_written, abstract_words, sort_words, parent_written, using_written, list_written, to_written, block_written}
 use Rattle.module_parse.specs.Pending.{spaced, kind_text, expr_text}
 

@@ -4,8 +4,8 @@ use Rattle.std.specs.List.{list_all}
 use Rattle.atl_tree.specs.Pieces.{is_in_quotes}
 use Rattle.atl_tree.specs.declared.module.Module.{Module}
 use Rattle.ocl_parse.specs.declared.symbol.Symbol.TheVariants.{Number, Words, Name as Named, Fixed}
-use Rattle.module_parse.specs.Marks.{Content, Word, Shared, Mark}
-use Rattle.module_parse.specs.Grammar.{WrittenModule, ModuleFits, module_marks, module_tree}
+use Rattle.module_grammar.specs.Marks.{Content, Word, Shared, Mark}
+use Rattle.module_grammar.specs.Grammar.{WrittenModule, ModuleFits, module_marks, module_tree}
 
 -- it is one of characters, and none of them is a double quote or a line feed
 abbrev pub IsNameText : List ℕ → Type 0

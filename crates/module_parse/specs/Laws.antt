@@ -3,8 +3,8 @@ use Rattle.std.specs.Prelude.{◌≡◌, ◌≤◌, ℕ, length, List, [], ◌�
 use Rattle.atl_tree.specs.declared.module.Module.{Module}
 use Rattle.atl_tree.specs.declared.token.Token.{Token}
 use Rattle.ocl_parse.specs.Symbols.{Lexeme, lexeme, lexemes}
-use Rattle.module_parse.specs.Marks.{Mark, symbol, marks}
-use Rattle.module_parse.specs.Grammar.{WrittenModule, module_marks, module_tree, ModuleFits, IsModule}
+use Rattle.module_grammar.specs.Marks.{Mark, symbol, marks}
+use Rattle.module_grammar.specs.Grammar.{WrittenModule, module_marks, module_tree, ModuleFits, IsModule}
 use Rattle.module_parse.specs.Writing.{module_written}
 use Rattle.module_parse.specs.Places.{placed_module}
 use Rattle.module_parse.specs.TooDeep.{deep_in}

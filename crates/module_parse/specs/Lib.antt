@@ -1,7 +1,3 @@
-pub mod Keywords
-pub mod Marks
-pub mod Parts
-pub mod Grammar
 pub mod Machine
 pub mod TooDeep
 pub mod Laws

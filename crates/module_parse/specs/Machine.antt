@@ -26,9 +26,9 @@ use Rattle.ocl_parse.specs.declared.frame.Next.{Next}
 use Rattle.ocl_parse.specs.declared.frame.Next.TheVariants as N
 use Rattle.ocl_parse.specs.Trees.{name}
 use Rattle.ocl_parse.specs.Machine.{step as step_inside, last as last_inside, over, Step as StepInside, Goes as GoesInside, Stops as StopsInside, Refuses as RefusesInside, TooDeep as TooDeepInside, End as EndInside, Read as ReadInside}
-use Rattle.module_parse.specs.declared.keyword.Keyword.TheVariants as W
-use Rattle.module_parse.specs.Marks.{Content, Word, Shared, Mark, symbol}
-use Rattle.module_parse.specs.Parts.{model, module_of, with_item, param, helper, class, pattern, local, target, bind, with_bind, bare, with_parent, with_params, with_source, with_guard, with_local, with_target, with_block, Modifier, Abstract, Unique, Lazy, Modifiers, no_modifiers, has, with_modifier, may_stand, sort_of}
+use Rattle.module_grammar.specs.declared.keyword.Keyword.TheVariants as W
+use Rattle.module_grammar.specs.Marks.{Content, Word, Shared, Mark, symbol}
+use Rattle.module_grammar.specs.Parts.{model, module_of, with_item, param, helper, class, pattern, local, target, bind, with_bind, bare, with_parent, with_params, with_source, with_guard, with_local, with_target, with_block, Modifier, Abstract, Unique, Lazy, Modifiers, no_modifiers, has, with_modifier, may_stand, sort_of}
 
 -- whose models are read: the targets, with those before; or the sources, behind all targets
 pub data Models : Type 0 where

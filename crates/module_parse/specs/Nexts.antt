@@ -8,10 +8,10 @@ use Rattle.ocl_parse.specs.declared.sign.Ender.TheVariants as Y
 use Rattle.ocl_parse.specs.declared.sign.Sign.{Sign}
 use Rattle.ocl_parse.specs.declared.sign.Sign.TheVariants.{Coll, End, If, Open, Other}
 use Rattle.ocl_parse.specs.declared.symbol.Symbol.TheVariants.{Fixed}
-use Rattle.module_parse.specs.Marks.{Content, Word, Shared}
-use Rattle.module_parse.specs.Parts.{Modifier, Abstract, Unique, Lazy, Modifiers}
+use Rattle.module_grammar.specs.Marks.{Content, Word, Shared}
+use Rattle.module_grammar.specs.Parts.{Modifier, Abstract, Unique, Lazy, Modifiers}
 use Rattle.module_parse.specs.Machine.{AtBang, AtBind, AtBinds, AtBrace, AtCalledBrace, AtClass, AtClassName, AtContext, AtCreate, AtDefColon, AtDo, AtElse, AtElseBrace, AtFirstBind, AtFirstParam, AtFor, AtForBrace, AtForIn, AtForName, AtFrom, AtGives, AtHelper, AtHelperName, AtIf, AtIfBrace, AtItem, AtLocal, AtLocalColon, AtMeta, AtModel, AtModelColon, AtModelEnd, AtModuleEnd, AtModuleName, AtNoParams, AtParam, AtParamColon, AtParent, AtRest, AtResultColon, AtRule, AtRuleEnd, AtRuleName, AtRuleOpen, AtSignature, AtSource, AtSourceColon, AtSourceEnd, AtStart, AtStat, AtTarget, AtTargetColon, AtTargetEnd, AtTo, AtUsing, AtWord, Blocks, ForAssigned, ForBind, ForBody, ForClass, ForCondition, ForContext, ForExpr, ForGuard, ForKind, ForLocal, ForLocalKind, ForParam, ForResult, ForSource, ForSources, ForStat, ForTarget, ForTargets, ForValues, Form, Goes, InDo, InElse, InExpr, InFor, InIf, InKind, Models, Modified, OfHelper, OfRule, Owner, Plain, Refuses, Started, State, Step, TooDeep}
-use Rattle.module_parse.specs.declared.keyword.Keyword.TheVariants as J
+use Rattle.module_grammar.specs.declared.keyword.Keyword.TheVariants as J
 use Rattle.module_parse.specs.declared.reading.content.Content.{Content as SomeContent}
 use Rattle.module_parse.specs.declared.reading.content.Content.TheVariants as T
 use Rattle.module_parse.specs.declared.reading.next.Opening.{Opening}

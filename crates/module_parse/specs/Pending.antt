@@ -9,8 +9,8 @@ use Rattle.ocl_parse.specs.Symbols.{Lexeme}
 use Rattle.ocl_parse.specs.Grammar.{Written, If, spelt, listed, fixed, kind_spelt}
 use Rattle.module_parse.specs.declared.print.part.Part.{Part}
 use Rattle.module_parse.specs.declared.print.part.Part.TheVariants as P
-use Rattle.module_parse.specs.Marks.{Mark}
-use Rattle.module_parse.specs.Grammar.{WrittenStat, If as Branch, IfElse, NoStats, stat_marks, begins_if}
+use Rattle.module_grammar.specs.Marks.{Mark}
+use Rattle.module_grammar.specs.Grammar.{WrittenStat, If as Branch, IfElse, NoStats, stat_marks, begins_if}
 use Rattle.module_parse.specs.Writing.{here, whole_written, more_stats, expr_written, kind_written, stat_written, arguments, round_leftmost}
 use Rattle.module_parse.specs.Printed.{mark_text, symbol_text, sign_text, keyword_text, name_text, words_text}
 

@@ -19,10 +19,10 @@ use Rattle.ocl_parse.specs.declared.sign.Sign.TheVariants as S
 use Rattle.ocl_parse.specs.declared.symbol.Symbol.{Symbol}
 use Rattle.ocl_parse.specs.declared.symbol.Symbol.TheVariants as T
 use Rattle.ocl_parse.specs.Signs.{word as sign_of}
-use Rattle.module_parse.specs.declared.keyword.Keyword.{Keyword}
-use Rattle.module_parse.specs.declared.keyword.Keyword.TheVariants as W
-use Rattle.module_parse.specs.Marks.{Content, Word, Shared, Mark, word, sign, called}
-use Rattle.module_parse.specs.Grammar.{Items, NoItems, MoreItems, WrittenModule, Composed, models_marks, item_marks}
+use Rattle.module_grammar.specs.declared.keyword.Keyword.{Keyword}
+use Rattle.module_grammar.specs.declared.keyword.Keyword.TheVariants as W
+use Rattle.module_grammar.specs.Marks.{Content, Word, Shared, Mark, word, sign, called}
+use Rattle.module_grammar.specs.Grammar.{Items, NoItems, MoreItems, WrittenModule, Composed, models_marks, item_marks}
 use Rattle.module_parse.specs.Writing.{module_written}
 
 -- a letter or _, and then letters, digits and _

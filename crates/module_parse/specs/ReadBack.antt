@@ -3,8 +3,8 @@ use Rattle.std.specs.Prelude.{◌≡◌, ℕ, true, false, List, map, Ok, encode
 use Rattle.atl_tree.specs.declared.token.Tokens.{Tokens}
 use Rattle.atl_tree.specs.declared.module.Module.{Module}
 use Rattle.atl_tree.specs.Tokens.{tokens_of}
-use Rattle.module_parse.specs.Marks.{Content, Mark, marks}
-use Rattle.module_parse.specs.Grammar.{WrittenModule, ModuleFits, module_marks, module_tree}
+use Rattle.module_grammar.specs.Marks.{Content, Mark, marks}
+use Rattle.module_grammar.specs.Grammar.{WrittenModule, ModuleFits, module_marks, module_tree}
 use Rattle.module_parse.specs.Held.{IsWellFormed}
 use Rattle.module_parse.specs.Writing.{module_written}
 use Rattle.module_parse.specs.Printed.{printed}

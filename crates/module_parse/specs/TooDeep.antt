@@ -1,9 +1,9 @@
 -- How many marks stand, in reading order, before the first expression of a module that stands more than 200 deep.
 use Rattle.std.specs.Prelude.{ℕ, ◌+◌, length, Option, None}
 use Rattle.ocl_parse.specs.TooDeep.{or_else, behind, size, deep_after}
-use Rattle.module_parse.specs.Marks.{kind_marks}
-use Rattle.module_parse.specs.Grammar.{WrittenHelper, Define, Guard, NoGuard, SomeGuard, Locals, NoLocals, MoreLocals, Using, NoUsing, SomeUsing, Binds, OneBind, MoreBinds, BindList, SomeBinds, Targets, OneTarget, MoreTargets, To, NoTo, SomeTo, WrittenStat, Eval, Assign, If, IfElse, For, Stats, NoStats, MoreStats, Block, NoBlock, SomeBlock, WrittenRule, Matched, Called, WrittenItem, Help, Make, Items, NoItems, MoreItems, WrittenModule, Composed}
-use Rattle.module_parse.specs.Grammar.{models_marks, bracketed_marks, context_marks, signature_marks, words_marks, parent_marks, sources_marks, guard_marks, locals_marks, using_marks, binds_marks, targets_marks, to_marks, stats_marks, start_marks, items_marks}
+use Rattle.module_grammar.specs.Marks.{kind_marks}
+use Rattle.module_grammar.specs.Grammar.{WrittenHelper, Define, Guard, NoGuard, SomeGuard, Locals, NoLocals, MoreLocals, Using, NoUsing, SomeUsing, Binds, OneBind, MoreBinds, BindList, SomeBinds, Targets, OneTarget, MoreTargets, To, NoTo, SomeTo, WrittenStat, Eval, Assign, If, IfElse, For, Stats, NoStats, MoreStats, Block, NoBlock, SomeBlock, WrittenRule, Matched, Called, WrittenItem, Help, Make, Items, NoItems, MoreItems, WrittenModule, Composed}
+use Rattle.module_grammar.specs.Grammar.{models_marks, bracketed_marks, context_marks, signature_marks, words_marks, parent_marks, sources_marks, guard_marks, locals_marks, using_marks, binds_marks, targets_marks, to_marks, stats_marks, start_marks, items_marks}
 use Rattle.ocl_parse.specs.Grammar.{Written}
 
 -- of an expression that stands in no other

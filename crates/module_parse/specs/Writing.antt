@@ -26,8 +26,8 @@ use Rattle.atl_tree.specs.declared.module.Stat.TheOpen as A
 use Rattle.ocl_parse.specs.declared.sign.Constant.TheVariants as N
 use Rattle.ocl_parse.specs.Trees.{name, level}
 use Rattle.ocl_parse.specs.Grammar.{Written, Number, Words as Text, Lone, Literal, Variable, OfClass, OfBasic, Elements, If as Choice, Round, Let, Unary, Binary, Read, Call, Loop, Iterate, Arguments, None as NoArguments, One, More, Kind, Basic, Class, Coll, spelt}
-use Rattle.module_parse.specs.Parts.{Abstract, Unique, Lazy}
-use Rattle.module_parse.specs.Grammar.{Models, OneModel, MoreModels, Params, OneParam, MoreParams, Bracketed, NoParams, SomeParams, Context, NoContext, InContext, Signature, Attribute, Operation, WrittenHelper, Define, Words, NoWords, MoreWords, Parent, NoParent, Extends, Sources, OneSource, MoreSources, Guard, NoGuard, SomeGuard, Locals, NoLocals, MoreLocals, Using, NoUsing, SomeUsing, Binds, OneBind, MoreBinds, BindList, NoList, SomeBinds, Targets, OneTarget, MoreTargets, To, NoTo, SomeTo, WrittenStat, Eval, Assign, If, IfElse, For, Stats, NoStats, MoreStats, Block, NoBlock, SomeBlock, Start, NoStart, Entry, End, WrittenRule, Matched, Called, WrittenItem, Help, Make, Items, NoItems, MoreItems, WrittenModule, Composed, begins_if}
+use Rattle.module_grammar.specs.Parts.{Abstract, Unique, Lazy}
+use Rattle.module_grammar.specs.Grammar.{Models, OneModel, MoreModels, Params, OneParam, MoreParams, Bracketed, NoParams, SomeParams, Context, NoContext, InContext, Signature, Attribute, Operation, WrittenHelper, Define, Words, NoWords, MoreWords, Parent, NoParent, Extends, Sources, OneSource, MoreSources, Guard, NoGuard, SomeGuard, Locals, NoLocals, MoreLocals, Using, NoUsing, SomeUsing, Binds, OneBind, MoreBinds, BindList, NoList, SomeBinds, Targets, OneTarget, MoreTargets, To, NoTo, SomeTo, WrittenStat, Eval, Assign, If, IfElse, For, Stats, NoStats, MoreStats, Block, NoBlock, SomeBlock, Start, NoStart, Entry, End, WrittenRule, Matched, Called, WrittenItem, Help, Make, Items, NoItems, MoreItems, WrittenModule, Composed, begins_if}
 
 abbrev pub here : Place
 here = record { line = 0; column = 0 }

@@ -1,8 +1,8 @@
 //! The laws of reading, over the definitions alone. Each function has a law as its contract, and does nothing.
 ghost use Rattle.std.specs.Prelude.{List, ℕ};
 ghost use Rattle.atl_tree.specs.declared.token.Token.{Token as SomeToken};
-ghost use Rattle.module_parse.specs.Marks.{Mark};
-ghost use Rattle.module_parse.specs.Grammar.{WrittenModule};
+ghost use Rattle.module_grammar.specs.Marks.{Mark};
+ghost use Rattle.module_grammar.specs.Grammar.{WrittenModule};
 ghost use Rattle.atl_tree.specs.declared.module.Module.{Module as SomeModule};
 ghost use Rattle.module_parse.specs.ReadBack.{HasItsMarks, IsReadBack, IsReadAgain, GivesWellFormed};
 ghost use Rattle.module_parse.specs.Laws.{Exact, HasOne, IsCanonical, ReadsBack, SharesSymbols};

@@ -1,7 +1,6 @@
 //! Modules, read from a text and printed.
 #![tactic(auto)]
 
-pub mod keyword;
 pub mod laws;
 pub mod parse;
 pub mod print;

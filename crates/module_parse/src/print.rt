@@ -12,13 +12,13 @@ mod statement;
 mod text;
 mod token;
 
-use crate::keyword::Keyword;
 use crate::print::item::push_items;
 use crate::print::lists::push_models;
 use crate::print::token::{push_keyword, push_last, push_name};
 use atl_base::text::Text;
 use atl_tree::module::Module;
 use atl_tree::name::Name;
+use module_grammar::keyword::Keyword;
 use ocl_parse::sign::Sign;
 use std::alloc::{AllocError, Global};
 

@@ -1,12 +1,11 @@
 // Helpers and rules, each on a line of its own.
 ghost use Rattle.std.specs.Prelude.{◌≡◌, ◌++◌, flat_map, OnOk};
-ghost use Rattle.module_parse.specs.Grammar.{context_marks, signature_marks, helper_marks, words_marks, parent_marks, guard_marks, block_marks, rule_marks, item_marks};
+ghost use Rattle.module_grammar.specs.Grammar.{context_marks, signature_marks, helper_marks, words_marks, parent_marks, guard_marks, block_marks, rule_marks, item_marks};
 ghost use Rattle.module_parse.specs.Writing.{context_written, signature_written, helper_written, abstract_words, sort_words, parent_written, guard_written, block_written, called_written, matched_written, by_sort, item_written};
 ghost use Rattle.module_parse.specs.Pending.{spaced};
 ghost use Rattle.module_parse.specs.Fragments.{rest_text, head_text, called_text};
 ghost use Rattle.module_parse.specs.Printed.{line_text};
 
-use crate::keyword::Keyword;
 use crate::print::lists::{push_params, push_sources, push_targets, push_using};
 use crate::print::nested::{push_expression, push_kind, push_statements};
 use crate::print::token::{push_keyword, push_last, push_name, push_sign};
@@ -16,6 +15,7 @@ use atl_tree::kind::KindNode;
 use atl_tree::module::{Helper, Item, Param, Rule, RuleSort};
 use atl_tree::name::Name;
 use atl_tree::statements::Statements;
+use module_grammar::keyword::Keyword;
 use ocl_parse::sign::{Ender, Sign};
 use sqlite_items::Items;
 use std::alloc::{AllocError, Global};

@@ -1,17 +1,17 @@
 // Lists with commas between, and the parts of them: models, parameters, sources, variables, bindings and targets.
 ghost use Rattle.std.specs.Prelude.{◌≡◌, ◌++◌, flat_map, OnOk};
-ghost use Rattle.module_parse.specs.Grammar.{models_marks, bracketed_marks, sources_marks, using_marks, list_marks, to_marks};
+ghost use Rattle.module_grammar.specs.Grammar.{models_marks, bracketed_marks, sources_marks, using_marks, list_marks, to_marks};
 ghost use Rattle.module_parse.specs.Writing.{models_written, bracketed_written, sources_written, using_written, list_written, to_written};
 ghost use Rattle.module_parse.specs.Pending.{spaced};
 ghost use Rattle.module_parse.specs.Fragments.{model_text, param_text, params_text, class_text, source_text, local_text, bind_text, target_text, comma};
 
-use crate::keyword::Keyword;
 use crate::print::nested::{push_expression, push_kind};
 use crate::print::token::{push_keyword, push_name, push_sign};
 use atl_base::text::Text;
 use atl_tree::expr::BinaryOp;
 use atl_tree::module::{Bind, LocalVar, ModelDecl, Param, Pattern, Target};
 use atl_tree::name::ClassRef;
+use module_grammar::keyword::Keyword;
 use ocl_parse::sign::{Ender, Sign};
 use std::alloc::{AllocError, Global};
 

@@ -2,11 +2,11 @@
 // chain and a deep nest take no deeper calls.
 ghost use Rattle.std.specs.Prelude.{◌≡◌, ◌++◌, reverse, OnOk};
 
-use crate::keyword::Keyword;
 use atl_base::text::Text;
 use atl_tree::expr::Expr;
 use atl_tree::kind::KindNode;
 use atl_tree::module::Stat;
+use module_grammar::keyword::Keyword;
 use ocl_parse::sign::Sign;
 use std::alloc::AllocError;
 

@@ -3,17 +3,17 @@ ghost use Rattle.std.specs.Prelude.{◌≡◌, ◌∷◌, ◌++◌, [], map, rev
 ghost use Rattle.ocl_parse.specs.declared.sign.Ender.TheVariants as E;
 ghost use Rattle.ocl_parse.specs.declared.sign.Sign.TheVariants as S;
 ghost use Rattle.ocl_parse.specs.Grammar.{spelt};
-ghost use Rattle.module_parse.specs.Marks.{sign};
-ghost use Rattle.module_parse.specs.Grammar.{Eval, Assign, If, For, NoStats, begins_if, stat_marks, stats_marks};
+ghost use Rattle.module_grammar.specs.Marks.{sign};
+ghost use Rattle.module_grammar.specs.Grammar.{Eval, Assign, If, For, NoStats, begins_if, stat_marks, stats_marks};
 ghost use Rattle.module_parse.specs.Writing.{here, name_here, expr_written, whole_written, stat_written, beginning, more_stats};
 ghost use Rattle.module_parse.specs.Pending.{Opens, spaced, stat_text, branch_written, begins_open};
 
-use crate::keyword::Keyword;
 use crate::print::expression::{is_enclosed, level};
 use crate::print::part::{Part, push_all};
 use atl_tree::expr::{Expr, ExprKind};
 use atl_tree::module::Stat;
 use atl_tree::name::Name;
+use module_grammar::keyword::Keyword;
 use ocl_parse::sign::{Ender, Sign};
 use sqlite_items::Items;
 use std::alloc::AllocError;

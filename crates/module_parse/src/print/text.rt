@@ -4,9 +4,9 @@ ghost use Rattle.std.specs.List.{list_all};
 ghost use Rattle.atl_base.specs.XmlText.{is_ascii_text};
 ghost use Rattle.module_parse.specs.Printed.{operator_text as operator_text_of, constant_text as constant_text_of, basic_text as basic_text_of, coll_text as coll_text_of, ender_text as ender_text_of, sign_text as sign_text_of, keyword_text as keyword_text_of};
 
-use crate::keyword::Keyword;
 use atl_tree::expr::BinaryOp;
 use atl_tree::kind::{BasicWord, CollWord};
+use module_grammar::keyword::Keyword;
 use ocl_parse::sign::{Constant, Ender, Sign};
 
 fn operator_text(op: BinaryOp) -> &'static str

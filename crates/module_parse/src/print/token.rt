@@ -6,12 +6,12 @@ ghost use Rattle.ocl_parse.specs.Signs.{word as sign_of};
 ghost use Rattle.atl_tree.specs.Pieces.{is_letter as is_letter_of, is_digit as is_digit_of};
 ghost use Rattle.module_parse.specs.Printed.{is_plain as is_plain_of, name_text, escaped as escaped_of, words_text, sign_text as sign_text_of, keyword_text as keyword_text_of};
 
-use crate::keyword::Keyword;
 use crate::print::text::{keyword_text, sign_text};
 use atl_base::place::Place;
 use atl_base::text::Text;
 use atl_tree::token::{Token, TokenSort};
 use itoa::Buffer;
+use module_grammar::keyword::Keyword;
 use ocl_parse::sign::Sign;
 use ocl_parse::symbol::{Symbol, read_symbol};
 use std::alloc::{AllocError, Global};

@@ -7,7 +7,6 @@ ghost use Rattle.module_parse.specs.Machine.{AtStat, ForStat, ForValues, InExpr,
 ghost use Rattle.module_parse.specs.Nexts.{blocks_in, blocks_of, is_else as is_else_of, is_open as is_open_of, meant, opening_of, state_of, stating_of, step_of};
 ghost use Rattle.module_parse.specs.declared.reading.next.Stating.TheVariants as S;
 
-use crate::keyword::Keyword;
 use crate::reading::content::Content;
 use crate::reading::expr::{begin, stat_ends, step as step_expr};
 use crate::reading::next::{
@@ -20,6 +19,7 @@ use atl_tree::expr::Expr;
 use atl_tree::module::Stat;
 use atl_tree::name::Name;
 use atl_tree::statements::Statements;
+use module_grammar::keyword::Keyword;
 use ocl_parse::frame::{Frame, Next as NextInside};
 use ocl_parse::sign::{Ender, Sign};
 use ocl_parse::stack::Stack;

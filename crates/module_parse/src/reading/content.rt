@@ -1,12 +1,12 @@
 // What a token is to the grammar of modules.
 ghost use Rattle.std.specs.Prelude.{◌≡◌, IfOk};
-ghost use Rattle.module_parse.specs.Marks.{content_of, word_or, symbol as symbol_in};
+ghost use Rattle.module_grammar.specs.Marks.{content_of, word_or, symbol as symbol_in};
 ghost use Rattle.module_parse.specs.Reading.{is_other as is_other_of};
 ghost use Rattle.module_parse.specs.Nexts.{meant, sign_of};
 ghost use Rattle.ocl_parse.specs.Symbols.{symbol_of};
 
-use crate::keyword::{Keyword, word};
 use atl_tree::token::{Token, TokenSort};
+use module_grammar::keyword::{Keyword, word};
 use ocl_parse::sign::Sign;
 use ocl_parse::symbol::{Symbol, read_symbol};
 use std::alloc::{AllocError, Global};

@@ -4,13 +4,13 @@ ghost use Rattle.module_parse.specs.Machine.{ForSources, ForTargets, declared as
 ghost use Rattle.module_parse.specs.Nexts.{header_of, meant, models_of, step_of};
 ghost use Rattle.module_parse.specs.declared.reading.next.Header.TheVariants as H;
 
-use crate::keyword::Keyword;
 use crate::reading::content::Content;
 use crate::reading::next::{Header, Models, Move, Next};
 use crate::reading::wanted::{a_colon, a_name, a_semicolon};
 use atl_base::place::Place;
 use atl_tree::module::{ModelDecl, Module};
 use atl_tree::name::Name;
+use module_grammar::keyword::Keyword;
 use ocl_parse::sign::{Ender, Sign};
 use ocl_parse::symbol::Symbol;
 use sqlite_items::Items;

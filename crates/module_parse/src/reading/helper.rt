@@ -6,7 +6,6 @@ ghost use Rattle.module_parse.specs.Nexts.{for_kind_of, helping_of, meant, step_
 ghost use Rattle.module_parse.specs.declared.reading.next.ForKind.TheVariants as K;
 ghost use Rattle.module_parse.specs.declared.reading.next.Helping.TheVariants as L;
 
-use crate::keyword::Keyword;
 use crate::reading::content::Content;
 use crate::reading::kind::{begin, context_begins};
 use crate::reading::next::{ForKind, Helping, Move, Next, Owner, Params, Signature};
@@ -15,6 +14,7 @@ use atl_base::place::Place;
 use atl_tree::kind::KindNode;
 use atl_tree::module::Module;
 use atl_tree::name::Name;
+use module_grammar::keyword::Keyword;
 use ocl_parse::sign::Sign;
 use ocl_parse::symbol::Symbol;
 use std::alloc::{AllocError, Global};

@@ -3,7 +3,7 @@ ghost use Rattle.std.specs.Prelude.{◌≡◌, [], IfOk, true};
 ghost use Rattle.ocl_parse.specs.Machine.{step as stepped};
 ghost use Rattle.ocl_parse.specs.declared.frame.Next.TheVariants as N;
 ghost use Rattle.module_parse.specs.Machine.{AtParam, ForParam, InKind, comma_or_close as comma_or_close_of, kind_goes as kind_goes_of, with_all as with_all_of, at_context as at_context_of, in_kind as in_kind_of, kind_end as kind_end_of};
-ghost use Rattle.module_parse.specs.Marks.{symbol as symbol_in};
+ghost use Rattle.module_grammar.specs.Marks.{symbol as symbol_in};
 ghost use Rattle.module_parse.specs.Nexts.{for_kind_of, is_coll as is_coll_of, meant, owner_of, state_of, step_of};
 ghost use Rattle.module_parse.specs.declared.reading.next.ForKind.TheVariants as K;
 

@@ -1,6 +1,6 @@
 // The parts of a module's tree, and what they become as they grow.
 ghost use Rattle.std.specs.Prelude.{◌≡◌, [], IfOk};
-ghost use Rattle.module_parse.specs.Parts.{bare as bare_of, with_item as with_item_of, with_parent as with_parent_of, with_params as with_params_of, with_source as with_source_of, with_guard as with_guard_of, with_local as with_local_of, with_target as with_target_of, with_block as with_block_of, with_bind as with_bind_of, target as target_with};
+ghost use Rattle.module_grammar.specs.Parts.{bare as bare_of, with_item as with_item_of, with_parent as with_parent_of, with_params as with_params_of, with_source as with_source_of, with_guard as with_guard_of, with_local as with_local_of, with_target as with_target_of, with_block as with_block_of, with_bind as with_bind_of, target as target_with};
 ghost use Rattle.module_parse.specs.Nexts.{drafted};
 
 use crate::reading::next::Draft;

@@ -2,7 +2,7 @@
 ghost use Rattle.std.specs.Prelude.{◌≡◌, ◌+◌, ◌<◌, ◌≤◌, ◌||◌, MatchResult, drop, length, true};
 ghost use Rattle.atl_tree.specs.Tokens.{begins_arrow as begins_arrow_of};
 ghost use Rattle.ocl_parse.specs.Variables.{refused_at};
-ghost use Rattle.module_parse.specs.Marks.{marks};
+ghost use Rattle.module_grammar.specs.Marks.{marks};
 ghost use Rattle.module_parse.specs.Machine.{run as run_of};
 ghost use Rattle.module_parse.specs.Reading.{module_in, told, Gives, Fails, IsRefused};
 ghost use Rattle.module_parse.specs.Nexts.{state_of};

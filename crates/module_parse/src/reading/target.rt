@@ -1,7 +1,7 @@
 // The classes of sources and targets, and the bindings of targets.
 ghost use Rattle.std.specs.Prelude.{◌≡◌, IfOk, true};
 ghost use Rattle.module_parse.specs.Machine.{AtGives, AtTargetEnd, Goes, a_name as a_name_of, at_binds as at_binds_of, classed as classed_of, first_bind as first_bind_of, step as stepped, target_end as target_end_of};
-ghost use Rattle.module_parse.specs.Parts.{class as class_with, with_target as with_target_of};
+ghost use Rattle.module_grammar.specs.Parts.{class as class_with, with_target as with_target_of};
 ghost use Rattle.module_parse.specs.Nexts.{class_of, classing_of, meant, state_of, step_of, target_of};
 ghost use Rattle.module_parse.specs.declared.reading.next.Class.TheVariants as C;
 

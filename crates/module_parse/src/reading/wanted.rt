@@ -4,13 +4,13 @@ ghost use Rattle.atl_tree.specs.declared.name.Name.{Name as SomeName};
 ghost use Rattle.module_parse.specs.Machine.{Refuses, Step, a_name as a_name_of, a_colon as a_colon_of, a_semicolon as a_semicolon_of, an_open as an_open_of, a_close as a_close_of, a_brace as a_brace_of, an_equal as an_equal_of, a_bang as a_bang_of, an_in as an_in_of, a_gives as a_gives_of, a_def as a_def_of, a_rule as a_rule_of};
 ghost use Rattle.module_parse.specs.Nexts.{meant, named, state_of, step_of};
 
-use crate::keyword::Keyword;
 use crate::reading::content::Content;
 use crate::reading::next::{Class, Head, Header, Helping, Move, Next, Params, Part, Stating};
 use atl_base::place::Place;
 use atl_tree::expr::BinaryOp;
 use atl_tree::module::Target;
 use atl_tree::name::Name;
+use module_grammar::keyword::Keyword;
 use ocl_parse::sign::{Ender, Sign};
 use ocl_parse::symbol::Symbol;
 

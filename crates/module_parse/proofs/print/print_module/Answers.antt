@@ -1,6 +1,6 @@
 use Rattle.std.proofs.Common.{◌≡◌, ◌++◌, sym, ap, ◌∙◌}
 use Rattle.std.specs.List.{flat_map}
-use Rattle.module_parse.specs.Grammar.{item_marks}
+use Rattle.module_grammar.specs.Grammar.{item_marks}
 use Rattle.module_parse.specs.Writing.{item_written}
 use Rattle.module_parse.specs.Printed.{line_text}
 use Rattle.module_parse.specs.Fragments.{first_line, second_line}

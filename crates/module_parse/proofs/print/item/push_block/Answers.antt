@@ -1,6 +1,6 @@
 use Rattle.std.proofs.Common.{[], ◌++◌, sym, ap, ◌∙◌, codes}
 use Rattle.std.specs.List.{flat_map}
-use Rattle.module_parse.specs.Grammar.{block_marks}
+use Rattle.module_grammar.specs.Grammar.{block_marks}
 use Rattle.module_parse.specs.Writing.{block_written}
 use Rattle.module_parse.specs.Pending.{spaced, stat_text}
 use Rattle.module_parse.specs.Fragments.{token}

@@ -1,5 +1,5 @@
 use Rattle.std.proofs.Common.{[], ◌++◌, sym, ap, ◌∙◌, false, codes}
-use Rattle.module_parse.specs.Grammar.{guard_marks}
+use Rattle.module_grammar.specs.Grammar.{guard_marks}
 use Rattle.module_parse.specs.Writing.{guard_written}
 use Rattle.module_parse.specs.Pending.{spaced, expr_text}
 use Rattle.module_parse.specs.Fragments.{token}

@@ -1,5 +1,5 @@
 use Rattle.std.proofs.Common.{◌∷◌, [], ◌++◌, sym, ap, ◌∙◌, false, codes}
-use Rattle.module_parse.specs.Grammar.{context_marks, signature_marks}
+use Rattle.module_grammar.specs.Grammar.{context_marks, signature_marks}
 use Rattle.module_parse.specs.Writing.{context_written, signature_written}
 use Rattle.module_parse.specs.Printed.{name_text}
 use Rattle.module_parse.specs.Pending.{spaced, kind_text, expr_text}

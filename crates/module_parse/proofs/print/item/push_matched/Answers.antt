@@ -1,5 +1,5 @@
 use Rattle.std.proofs.Common.{[], ◌++◌, sym, ap, ◌∙◌, codes}
-use Rattle.module_parse.specs.Grammar.{guard_marks, sources_marks}
+use Rattle.module_grammar.specs.Grammar.{guard_marks, sources_marks}
 use Rattle.module_parse.specs.Writing.{sources_written, guard_written}
 use Rattle.module_parse.specs.Pending.{spaced}
 use Rattle.module_parse.specs.Fragments.{token, head_text, rest_text}

@@ -1,5 +1,5 @@
 use Rattle.std.proofs.Common.{◌++◌, sym, ap, ◌∙◌}
-use Rattle.module_parse.specs.Grammar.{NoStart, Entry, End, rule_marks}
+use Rattle.module_grammar.specs.Grammar.{NoStart, Entry, End, rule_marks}
 use Rattle.module_parse.specs.Writing.{here, by_sort}
 use Rattle.module_parse.specs.Printed.{line_text}
 use Rattle.module_parse.proofs.Opened.{OnOk-then, joined}

@@ -1,6 +1,6 @@
 use Rattle.std.proofs.Common.{◌≡◌, ◌∷◌, [], ◌++◌, sym, ap, ◌∙◌, codes}
 use Rattle.std.specs.List.{flat_map}
-use Rattle.module_parse.specs.Grammar.{list_marks}
+use Rattle.module_grammar.specs.Grammar.{list_marks}
 use Rattle.module_parse.specs.Writing.{list_written}
 use Rattle.module_parse.specs.Pending.{spaced}
 use Rattle.module_parse.specs.Fragments.{token, comma, bind_text}

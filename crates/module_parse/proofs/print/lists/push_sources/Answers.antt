@@ -1,5 +1,5 @@
 use Rattle.std.proofs.Common.{◌≡◌, ◌∷◌, ◌++◌, sym, ap, ◌∙◌}
-use Rattle.module_parse.specs.Grammar.{sources_marks}
+use Rattle.module_grammar.specs.Grammar.{sources_marks}
 use Rattle.module_parse.specs.Writing.{sources_written}
 use Rattle.module_parse.specs.Pending.{spaced}
 use Rattle.module_parse.proofs.Opened.{OnOk-then, joined}

@@ -2,7 +2,7 @@ use Rattle.std.proofs.Common.{sym, ap, ◌∙◌}
 use Rattle.std.specs.Prelude.{suc, false, map, codes}
 use Rattle.ocl_parse.specs.Trees.{level, name}
 use Rattle.ocl_parse.specs.Grammar.{spelt}
-use Rattle.module_parse.specs.Grammar.{begins_if}
+use Rattle.module_grammar.specs.Grammar.{begins_if}
 use Rattle.module_parse.specs.Writing.{here, name_here, arguments, kind_written, expr_written, what_written}
 use Rattle.module_parse.specs.Pending.{begins_open}
 use Rattle.module_parse.proofs.Layers.{bare-Number, bare-Words, bare-Truth, bare-Undefined, bare-Literal, bare-Var, bare-Own, bare-Module, bare-Class, bare-Basic, bare-Coll, bare-If, bare-Let, bare-Unary, bare-Binary, bare-Read, bare-Call, bare-Loop, bare-Iterate}

@@ -1,7 +1,7 @@
 use Rattle.std.proofs.Common.{◌≡◌}
 use Rattle.ocl_parse.specs.Grammar.{spelt}
 use Rattle.module_parse.specs.Writing.{expr_written}
-use Rattle.module_parse.specs.Grammar.{begins_if}
+use Rattle.module_grammar.specs.Grammar.{begins_if}
 use Rattle.module_parse.proofs.print.statement.begins_statement.Given as goal
 
 -- the text of the whole begins as that of its leftmost part

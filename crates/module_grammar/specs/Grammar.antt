@@ -27,9 +27,9 @@ use Rattle.ocl_parse.specs.declared.symbol.Symbol.{Symbol}
 use Rattle.ocl_parse.specs.declared.symbol.Symbol.TheVariants.{Fixed}
 use Rattle.ocl_parse.specs.Symbols.{Lexeme}
 use Rattle.ocl_parse.specs.Grammar.{Written, spelt, tree_of, Fits as ExprFits, Kind, Coll, kind_of}
-use Rattle.module_parse.specs.declared.keyword.Keyword.TheVariants as W
-use Rattle.module_parse.specs.Marks.{Mark, word, sign, called, expression, kind_marks}
-use Rattle.module_parse.specs.Parts.{model, module_of, param, helper, class, pattern, local, target, bind, rule, Modifier, Abstract, Unique, Lazy, Modifiers, no_modifiers, has, with_modifier, may_stand, sort_of}
+use Rattle.module_grammar.specs.declared.keyword.Keyword.TheVariants as W
+use Rattle.module_grammar.specs.Marks.{Mark, word, sign, called, expression, kind_marks}
+use Rattle.module_grammar.specs.Parts.{model, module_of, param, helper, class, pattern, local, target, bind, rule, Modifier, Abstract, Unique, Lazy, Modifiers, no_modifiers, has, with_modifier, may_stand, sort_of}
 
 -- model : meta, with commas between
 pub data Models : Type 0 where

@@ -1,6 +1,6 @@
 use Rattle.std.proofs.Common.{◌≡◌, drop, map}
-use Rattle.module_parse.specs.Keywords.{find}
-use Rattle.module_parse.proofs.keyword.find.Given as goal
+use Rattle.module_grammar.specs.Keywords.{find}
+use Rattle.module_grammar.proofs.keyword.find.Given as goal
 
 -- what is found among the words that are left is found among all
 abbrev pub invariant-loop-word : goal.invariant-loop-word

@@ -1,8 +1,8 @@
 -- The keywords of modules that no expression has, and the mark <-.
 use Rattle.std.specs.Prelude.{ℕ, List, [], ◌∷◌, Option, None, Some, if◌then◌else◌, codes}
 use Rattle.std.specs.Str.{bytes_eq}
-use Rattle.module_parse.specs.declared.keyword.Keyword.{Keyword}
-use Rattle.module_parse.specs.declared.keyword.Keyword.TheVariants as W
+use Rattle.module_grammar.specs.declared.keyword.Keyword.{Keyword}
+use Rattle.module_grammar.specs.declared.keyword.Keyword.TheVariants as W
 
 -- the keyword of the first of these words that is the text
 abbrev pub find : List ℕ → List (List ℕ × Keyword) → Option Keyword

@@ -12,8 +12,8 @@ use Rattle.ocl_parse.specs.declared.symbol.Symbol.{Symbol}
 use Rattle.ocl_parse.specs.declared.symbol.Symbol.TheVariants.{Name as Named, Fixed}
 use Rattle.ocl_parse.specs.Symbols.{Lexeme, symbol_of}
 use Rattle.ocl_parse.specs.Grammar.{Written, spelt, Kind, kind_spelt}
-use Rattle.module_parse.specs.declared.keyword.Keyword.{Keyword}
-use Rattle.module_parse.specs.Keywords.{keyword, arrow}
+use Rattle.module_grammar.specs.declared.keyword.Keyword.{Keyword}
+use Rattle.module_grammar.specs.Keywords.{keyword, arrow}
 
 pub data Content : Type 0 where
   Word : Keyword → Content

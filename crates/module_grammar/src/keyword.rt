@@ -1,6 +1,6 @@
 // The keywords of modules that no expression has.
 ghost use Rattle.std.specs.Prelude.{◌≡◌, map};
-ghost use Rattle.module_parse.specs.Keywords.{find as find_in, words, keyword as keyword_of};
+ghost use Rattle.module_grammar.specs.Keywords.{find as find_in, words, keyword as keyword_of};
 
 /// A keyword or a mark that stands in modules and in no expression.
 #[derive(Clone, Copy, Debug, PartialEq, Eq)]
