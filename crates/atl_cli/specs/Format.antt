@@ -15,7 +15,7 @@ use Rattle.atl_outside.specs.Rose.{Rose}
 use Rattle.ocl_parse.specs.declared.refusal.ParseRefusal.{ParseRefusal}
 use Rattle.ocl_parse.specs.declared.refusal.ParseRefusal.TheVariants as R
 use Rattle.module_parse.specs.Reading.{module_of_text}
-use Rattle.module_parse.specs.Printed.{printed}
+use Rattle.module_print.specs.Printed.{printed}
 use Rattle.atl_cli.specs.declared.command.Misuse.TheVariants.{BadWords}
 use Rattle.atl_cli.specs.declared.status.Ending.{Ending}
 use Rattle.atl_cli.specs.declared.status.Ending.TheVariants as ending

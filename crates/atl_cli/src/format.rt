@@ -15,7 +15,7 @@ use atl_base::text::{Text, TextRefusal};
 use atl_outside::files::Files;
 use atl_tree::module::{Item, Module};
 use module_parse::parse::parse_module;
-use module_parse::print::print_module;
+use module_print::print::print_module;
 use ocl_parse::refusal::ParseRefusal;
 use std::alloc::{AllocError, Global};
 

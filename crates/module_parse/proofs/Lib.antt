@@ -19,7 +19,6 @@ pub mod Found
 pub mod Only
 pub mod Main
 pub mod Refusals
-pub mod Writings
 pub mod Says
 pub mod SaysParts
 pub mod SaysModules
@@ -28,14 +27,6 @@ pub mod Symbols
 pub mod Behind
 pub mod Hands
 pub mod Unfinished
-pub mod Rows
-pub mod Escaping
-pub mod Opened
-pub mod Layers
-pub mod StatTexts
-pub mod Fragmented
-pub mod Digits
-pub mod Heads
 pub mod Spacing
 pub mod Tokened
 pub mod ReadMarks

@@ -11,8 +11,8 @@ use Rattle.ocl_parse.specs.declared.symbol.Symbol.TheVariants.{Number, Words, Na
 use Rattle.module_grammar.specs.declared.keyword.Keyword.TheVariants as W
 use Rattle.module_grammar.specs.Marks.{Content, Word, Shared, Mark, word, sign, called}
 use Rattle.module_grammar.specs.Grammar.{WrittenItem, Help, Make, Define, Matched, Called, Items, NoItems, MoreItems, WrittenModule, Composed, models_marks, words_marks, start_marks, item_marks, items_marks, module_marks}
-use Rattle.module_parse.specs.Writing.{module_written}
-use Rattle.module_parse.specs.Printed.{mark_text, line_text, items_text, text_of, printed}
+use Rattle.module_print.specs.Writing.{module_written}
+use Rattle.module_print.specs.Printed.{mark_text, line_text, items_text, text_of, printed}
 use Rattle.module_parse.specs.ReadBack.{contents, TokensAre}
 use Rattle.module_parse.proofs.Spacing.{IsGood, AreGood}
 use Rattle.module_parse.proofs.Tokened.{Reads, Texts, Texts-append, texts_have_tokens}

@@ -24,7 +24,7 @@ use Rattle.module_grammar.specs.declared.keyword.Keyword.{Keyword}
 use Rattle.module_grammar.specs.declared.keyword.Keyword.TheVariants as W
 use Rattle.module_grammar.specs.Keywords as K
 use Rattle.module_grammar.specs.Marks.{Content, Word, Shared, content_of}
-use Rattle.module_parse.specs.Printed.{mark_text}
+use Rattle.module_print.specs.Printed.{mark_text}
 use Rattle.module_parse.proofs.Spacing.{is_lead, is_gives, is_name, IsSign}
 use Rattle.module_parse.proofs.Tokened.{Reads}
 

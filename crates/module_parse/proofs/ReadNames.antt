@@ -25,8 +25,8 @@ use Rattle.module_grammar.specs.declared.keyword.Keyword.{Keyword}
 use Rattle.module_grammar.specs.Keywords as K
 use Rattle.module_grammar.specs.Keywords.{find, keyword}
 use Rattle.module_grammar.specs.Marks.{Shared, word_or, content_of}
-use Rattle.module_parse.specs.Printed.{is_plain, name_text, escaped, words_text}
-use Rattle.module_parse.proofs.Escaping.{itself, escaped_ascii, escaped_wide}
+use Rattle.module_print.specs.Printed.{is_plain, name_text, escaped, words_text}
+use Rattle.module_print.proofs.Escaping.{itself, escaped_ascii, escaped_wide}
 use Rattle.module_parse.proofs.Tokened.{Reads}
 use Rattle.module_parse.proofs.ReadMarks.{small_text}
 use Rattle.module_parse.specs.Held.{IsNameText, IsWordsText, IsNumber}

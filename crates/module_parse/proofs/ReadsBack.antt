@@ -12,7 +12,7 @@ use Rattle.ocl_parse.specs.declared.refusal.ParseRefusal.{ParseRefusal}
 use Rattle.module_grammar.specs.Marks.{marks}
 use Rattle.module_grammar.specs.Grammar.{WrittenModule, ModuleFits, IsModule, module_tree}
 use Rattle.module_parse.specs.Machine.{End, Read, Expected, Deep, read}
-use Rattle.module_parse.specs.Writing.{module_written}
+use Rattle.module_print.specs.Writing.{module_written}
 use Rattle.module_parse.specs.Places.{placed_module}
 use Rattle.module_parse.specs.Reading.{told, parsed, module_of_text}
 use Rattle.module_parse.specs.Held.{AreHeld, IsWellFormed}

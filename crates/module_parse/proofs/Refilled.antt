@@ -11,7 +11,7 @@ use Rattle.ocl_parse.specs.Symbols.{Lexeme, lexeme}
 use Rattle.ocl_parse.specs.Trees.{name, level}
 use Rattle.ocl_parse.specs.Grammar.{Written, Number, Words, Lone, Literal, Variable, OfClass, OfBasic, Elements, If, Round, Let, Unary, Binary, Read, Call, Loop, Iterate, Arguments, None, One, More, Kind, Basic, Class, Coll, spelt, listed, kind_spelt, fixed, named, unary_sign, dot_or_arrow, AreSome, Fits, FitAll}
 use Rattle.module_grammar.specs.Grammar.{IsContext}
-use Rattle.module_parse.specs.Writing.{here}
+use Rattle.module_print.specs.Writing.{here}
 use Rattle.module_parse.specs.Places.{placed_kind, placed, all_placed}
 use Rattle.module_parse.proofs.Cutting.{head_same, tail_same, both}
 

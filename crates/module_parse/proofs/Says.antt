@@ -16,9 +16,9 @@ use Rattle.ocl_parse.specs.declared.sign.Constant.{Constant}
 use Rattle.ocl_parse.specs.declared.sign.Constant.TheVariants as N
 use Rattle.ocl_parse.specs.Trees.{expr, kind, name, class, level, constant, binary, unary, feature, callee, call, iterator, iterate, collection, choice, within}
 use Rattle.ocl_parse.specs.Grammar.{Written, Number, Words, Lone, Literal, Variable, OfClass, OfBasic, Elements, If, Round, Let, Unary, Binary, Read, Call, Loop, Iterate, Arguments, None, One, More, Kind, Basic, Class, Coll, kind_of, tree_of, trees, AreSome, Fits, FitAll}
-use Rattle.module_parse.specs.Writing.{here, name_here, kind_layer, kind_written, round_where, more, arguments, layer, expr_written, what_written}
+use Rattle.module_print.specs.Writing.{here, name_here, kind_layer, kind_written, round_where, more, arguments, layer, expr_written, what_written}
 use Rattle.module_parse.specs.Places.{placed_kind, placed, all_placed}
-use Rattle.module_parse.proofs.Writings.{expr_is, what_is}
+use Rattle.module_print.proofs.Writings.{expr_is, what_is}
 
 -- a node is written by its parts
 pub written_is : (p : Place) (y : E.ExprKind-F ExprKind Expr) (k : ExprKind) (l : ℕ) → roll-ExprKind y ≡ k → expr_written (expr p k) l ≡ layer (map-ExprKind _ _ _ _ what_written expr_written y) l

@@ -28,7 +28,7 @@ use Rattle.module_grammar.specs.Parts.{module_of, class, target, bind, rule, Mod
 use Rattle.module_grammar.specs.Grammar.{Bracketed, NoParams, SomeParams, Words, NoWords, MoreWords, Binds, OneBind, MoreBinds, BindList, NoList, EmptyList, SomeBinds, Targets, OneTarget, MoreTargets, To, NoTo, SomeTo, WrittenStat, Eval, Assign, If, IfElse, For, Stats, NoStats, MoreStats, Block, NoBlock, SomeBlock, Start, NoStart, Entry, End, WrittenRule, Matched, Called, WrittenItem, Help, Make, Items, NoItems, MoreItems, WrittenModule, Composed}
 use Rattle.module_grammar.specs.Grammar.{models, bracketed, modifiers, guard, using, binds, bind_list, targets, to, stat, stats, block, start, rule_of, item, items, module_tree, module_marks}
 use Rattle.module_grammar.specs.Grammar.{WordsFit, StartFits, begins_if, Whole, GuardFits, BindsFit, ListFits, TargetsFit, ToFits, StatFits, StatsFit, BlockFits, RuleFits, ItemFits, ItemsFit, ModuleFits, IsModule}
-use Rattle.module_parse.specs.Writing.{here, name_here, whole_written, round_leftmost, beginning, models_written, bracketed_written, abstract_words, sort_words, guard_written, using_written, more_binds, list_written, more_targets, to_written, more_stats, stat_layer, stat_written, block_written, called_written, matched_written, by_sort, item_written, more_items, module_written}
+use Rattle.module_print.specs.Writing.{here, name_here, whole_written, round_leftmost, beginning, models_written, bracketed_written, abstract_words, sort_words, guard_written, using_written, more_binds, list_written, more_targets, to_written, more_stats, stat_layer, stat_written, block_written, called_written, matched_written, by_sort, item_written, more_items, module_written}
 use Rattle.module_parse.specs.Places.{placed, placed_models, placed_bracketed, placed_words, placed_using, placed_binds, placed_list, placed_targets, placed_to, placed_stat, placed_stats, placed_block, placed_start, placed_rule, placed_item, placed_items, placed_module}
 use Rattle.module_parse.specs.Laws.{ReadsBack}
 use Rattle.module_parse.proofs.Accepts.{accepts}

@@ -10,7 +10,7 @@ use Rattle.module_grammar.specs.Parts.{model, param, helper, class, pattern, loc
 use Rattle.module_grammar.specs.Grammar.{Models, OneModel, MoreModels, Params, OneParam, MoreParams, Bracketed, NoParams, SomeParams, Context, NoContext, InContext, Signature, Attribute, Operation, WrittenHelper, Define, Parent, NoParent, Extends, Sources, OneSource, MoreSources, Guard, NoGuard, SomeGuard, Locals, NoLocals, MoreLocals, Using, NoUsing, SomeUsing}
 use Rattle.module_grammar.specs.Grammar.{models, params, bracketed, context, signature, helper_of, parent, sources, guard, locals, using}
 use Rattle.module_grammar.specs.Grammar.{IsContext, ContextFits, Whole, HelperFits, GuardFits, LocalsFit, UsingFits}
-use Rattle.module_parse.specs.Writing.{here, name_here, kind_written, whole_written, more_models, models_written, more_params, bracketed_written, context_written, signature_written, helper_written, parent_written, more_sources, sources_written, guard_written, more_locals, using_written}
+use Rattle.module_print.specs.Writing.{here, name_here, kind_written, whole_written, more_models, models_written, more_params, bracketed_written, context_written, signature_written, helper_written, parent_written, more_sources, sources_written, guard_written, more_locals, using_written}
 use Rattle.module_parse.specs.Places.{placed_kind, placed, placed_models, placed_params, placed_bracketed, placed_context, placed_signature, placed_helper, placed_parent, placed_sources, placed_guard, placed_locals, placed_using}
 use Rattle.module_parse.proofs.Says.{says, kind_says}
 

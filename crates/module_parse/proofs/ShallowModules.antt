@@ -11,7 +11,7 @@ use Rattle.module_grammar.specs.Parts.{class, local, target, bind}
 use Rattle.module_grammar.specs.Grammar.{WrittenHelper, Define, Guard, NoGuard, SomeGuard, Locals, NoLocals, MoreLocals, Using, NoUsing, SomeUsing, Binds, OneBind, MoreBinds, BindList, NoList, EmptyList, SomeBinds, Targets, OneTarget, MoreTargets, To, NoTo, SomeTo, WrittenStat, Eval, Assign, If, IfElse, For, Stats, NoStats, MoreStats, Block, NoBlock, SomeBlock, WrittenRule, Matched, Called, WrittenItem, Help, Make, Items, NoItems, MoreItems, WrittenModule, Composed}
 use Rattle.module_grammar.specs.Grammar.{helper_of, modifiers, guard, locals, using, binds, bind_list, targets, to, stat, stats, block, rule_of, item, items, module_tree}
 use Rattle.module_grammar.specs.Grammar.{begins_if, Whole, HelperFits, GuardFits, LocalsFit, UsingFits, BindsFit, ListFits, TargetsFit, ToFits, StatFits, StatsFit, BlockFits, RuleFits, ItemFits, ItemsFit, ModuleFits}
-use Rattle.module_parse.specs.Writing.{here, name_here, whole_written, round_leftmost, beginning, helper_written, guard_written, more_locals, using_written, list_written, to_written, stat_written, block_written, by_sort, item_written, more_items, module_written}
+use Rattle.module_print.specs.Writing.{here, name_here, whole_written, round_leftmost, beginning, helper_written, guard_written, more_locals, using_written, list_written, to_written, stat_written, block_written, by_sort, item_written, more_items, module_written}
 use Rattle.module_parse.proofs.SaysParts.{IsSome, more_locals_last, context_says}
 use Rattle.module_parse.proofs.SaysModules.{class_name, first_begins, leftmost_first, all_written, more_binds_last, some_binds, more_targets_last, some_targets, stat_is, stats_last, start_fits, by_start, by_words, words_say, more_items_last}
 use Rattle.module_parse.proofs.Shallower.{whole_shallow, beginning_shallow}

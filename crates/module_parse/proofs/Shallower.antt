@@ -12,10 +12,10 @@ use Rattle.ocl_parse.specs.Depth.{is_shallow}
 use Rattle.ocl_parse.specs.Trees.{expr, name, class, level, constant}
 use Rattle.ocl_parse.specs.Grammar.{Written, Number, Words, Lone, Literal, Variable, OfClass, OfBasic, Elements, If, Round, Let, Unary, Binary, Read, Call, Loop, Iterate, Arguments, None, One, More, spelt, kind_of, tree_of, trees, Fits, FitAll}
 use Rattle.module_grammar.specs.Grammar.{begins_if, Whole}
-use Rattle.module_parse.specs.Pending.{begins_open}
-use Rattle.module_parse.specs.Writing.{here, kind_written, round_where, expr_written, whole_written, round_leftmost, beginning}
+use Rattle.module_print.specs.Pending.{begins_open}
+use Rattle.module_print.specs.Writing.{here, kind_written, round_where, expr_written, whole_written, round_leftmost, beginning}
 use Rattle.module_parse.proofs.Says.{written_is, written_all, written_last, some_trees, some_written}
-use Rattle.module_parse.proofs.Heads.{round_begins, unary_begins, unary_opens, choice_begins, opens-Binary, begins-Binary, opens-Read, begins-Read, opens-Call, begins-Call, opens-Loop, begins-Loop, opens-Iterate, begins-Iterate}
+use Rattle.module_print.proofs.Heads.{round_begins, unary_begins, unary_opens, choice_begins, opens-Binary, begins-Binary, opens-Read, begins-Read, opens-Call, begins-Call, opens-Loop, begins-Loop, opens-Iterate, begins-Iterate}
 
 less_deep : (d : ℕ) → is_shallow true (suc d) ≡ true → is_shallow true d ≡ true
 less_deep d h = grind (arith, nat_tests)

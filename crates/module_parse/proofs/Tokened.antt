@@ -12,7 +12,7 @@ use Rattle.atl_tree.specs.Machine.{piece}
 use Rattle.atl_tree.specs.Tokens.{place, after, token, tokens_from, fault_of, is_mark, leads_name, begins_arrow, or_else, first_fault, body_of, begin_byte, HasTokens}
 use Rattle.atl_tree.proofs.Breaks.{Break, break_is_gap, token_longest, gap_longest, unmarked}
 use Rattle.module_grammar.specs.Marks.{Content, content_of, marks}
-use Rattle.module_parse.specs.Printed.{mark_text}
+use Rattle.module_print.specs.Printed.{mark_text}
 use Rattle.module_parse.specs.ReadBack.{contents}
 use Rattle.module_parse.proofs.Spacing.{is_lead, is_gives, is_name, gives_next, Clear}
 

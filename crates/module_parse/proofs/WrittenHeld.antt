@@ -17,7 +17,7 @@ use Rattle.ocl_parse.specs.Symbols.{Lexeme}
 use Rattle.ocl_parse.specs.Trees.{expr, name, class, level, constant}
 use Rattle.ocl_parse.specs.Grammar.{Written, Number, Words, Lone, Literal, Variable, OfClass, OfBasic, Elements, If, Round, Let, Unary, Binary, Read, Call, Loop, Iterate, Arguments, None, One, More, Kind, Basic, Class, Coll, spelt, listed, kind_spelt, kind_of, tree_of, trees, fixed, named, unary_sign, dot_or_arrow, Fits, FitAll}
 use Rattle.module_grammar.specs.Marks.{Shared}
-use Rattle.module_parse.specs.Writing.{here, kind_written, round_where, expr_written}
+use Rattle.module_print.specs.Writing.{here, kind_written, round_where, expr_written}
 use Rattle.module_parse.specs.Places.{placed_kind, placed, all_placed}
 use Rattle.module_parse.specs.Held.{IsNameText, IsHeld}
 use Rattle.module_parse.proofs.Spacing.{IsSign, IsGood}

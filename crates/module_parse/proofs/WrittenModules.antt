@@ -25,7 +25,7 @@ use Rattle.module_grammar.specs.Grammar.{Models, OneModel, MoreModels, Params, O
 use Rattle.module_grammar.specs.Grammar.{models_marks, params_marks, bracketed_marks, context_marks, signature_marks, helper_marks, words_marks, parent_marks, sources_marks, guard_marks, locals_marks, using_marks, binds_marks, list_marks, targets_marks, to_marks, stat_marks, stats_marks, block_marks, start_marks, rule_marks, item_marks, items_marks, module_marks}
 use Rattle.module_grammar.specs.Grammar.{models, params, bracketed, context, signature, helper_of, modifiers, parent, sources, guard, locals, using, binds, bind_list, targets, to, stat, stats, block, rule_of, item, items, module_tree}
 use Rattle.module_grammar.specs.Grammar.{begins_if, Whole, HelperFits, GuardFits, LocalsFit, UsingFits, BindsFit, ListFits, TargetsFit, ToFits, StatFits, StatsFit, BlockFits, RuleFits, ItemFits, ItemsFit, ModuleFits}
-use Rattle.module_parse.specs.Writing.{here, kind_written, whole_written, round_leftmost, beginning, models_written, more_params, bracketed_written, context_written, signature_written, helper_written, abstract_words, sort_words, parent_written, sources_written, guard_written, more_locals, using_written, more_binds, list_written, more_targets, to_written, stat_written, block_written, by_sort, item_written, more_items, module_written}
+use Rattle.module_print.specs.Writing.{here, kind_written, whole_written, round_leftmost, beginning, models_written, more_params, bracketed_written, context_written, signature_written, helper_written, abstract_words, sort_words, parent_written, sources_written, guard_written, more_locals, using_written, more_binds, list_written, more_targets, to_written, stat_written, block_written, by_sort, item_written, more_items, module_written}
 use Rattle.module_parse.specs.Places.{placed_kind, placed, all_placed, placed_models, placed_params, placed_bracketed, placed_context, placed_signature, placed_helper, placed_words, placed_parent, placed_sources, placed_guard, placed_locals, placed_using, placed_binds, placed_list, placed_targets, placed_to, placed_stat, placed_stats, placed_block, placed_start, placed_rule, placed_item, placed_items, placed_module}
 use Rattle.module_parse.specs.Held.{IsNameText, AreHeld}
 use Rattle.module_parse.proofs.Spacing.{AreGood}

@@ -5,7 +5,7 @@ use Rattle.atl_tree.specs.declared.token.Token.{Token}
 use Rattle.ocl_parse.specs.Symbols.{Lexeme, lexeme, lexemes}
 use Rattle.module_grammar.specs.Marks.{Mark, symbol, marks}
 use Rattle.module_grammar.specs.Grammar.{WrittenModule, module_marks, module_tree, ModuleFits, IsModule}
-use Rattle.module_parse.specs.Writing.{module_written}
+use Rattle.module_print.specs.Writing.{module_written}
 use Rattle.module_parse.specs.Places.{placed_module}
 use Rattle.module_parse.specs.TooDeep.{deep_in}
 use Rattle.module_parse.specs.Machine.{End, Read, Expected, Deep, read}

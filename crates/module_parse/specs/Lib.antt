@@ -1,12 +1,8 @@
 pub mod Machine
 pub mod TooDeep
 pub mod Laws
-pub mod Writing
-pub mod Printed
 pub mod Reading
 pub mod Nexts
 pub mod Places
-pub mod Pending
-pub mod Fragments
 pub mod Held
 pub mod ReadBack

@@ -6,8 +6,8 @@ use Rattle.atl_tree.specs.Tokens.{tokens_of}
 use Rattle.module_grammar.specs.Marks.{Content, Mark, marks}
 use Rattle.module_grammar.specs.Grammar.{WrittenModule, ModuleFits, module_marks, module_tree}
 use Rattle.module_parse.specs.Held.{IsWellFormed}
-use Rattle.module_parse.specs.Writing.{module_written}
-use Rattle.module_parse.specs.Printed.{printed}
+use Rattle.module_print.specs.Writing.{module_written}
+use Rattle.module_print.specs.Printed.{printed}
 use Rattle.module_parse.specs.Places.{placed_module}
 use Rattle.module_parse.specs.Reading.{module_of_text}
 

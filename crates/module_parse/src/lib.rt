@@ -1,7 +1,6 @@
-//! Modules, read from a text and printed.
+//! Modules, read from a text.
 #![tactic(auto)]
 
 pub mod laws;
 pub mod parse;
-pub mod print;
 mod reading;

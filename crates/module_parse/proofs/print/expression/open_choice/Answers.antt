@@ -1,6 +1,0 @@
-use Rattle.std.proofs.Common.{append_assoc, arith}
-use Rattle.module_parse.proofs.Opened.{OnOk-map, spelling-append}
-use Rattle.module_parse.proofs.print.expression.open_choice.Goals as goal
-
-pub returns : goal.returns
-returns c = OnOk-map c.push_all.result (λ e. record { text = rw e (simp (spelling-append, append_assoc)); less = rw e (omega arith) }) c.push_all.ensures

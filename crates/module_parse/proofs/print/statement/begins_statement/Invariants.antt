@@ -1,9 +1,0 @@
-use Rattle.std.proofs.Common.{◌≡◌}
-use Rattle.ocl_parse.specs.Grammar.{spelt}
-use Rattle.module_parse.specs.Writing.{expr_written}
-use Rattle.module_grammar.specs.Grammar.{begins_if}
-use Rattle.module_parse.proofs.print.statement.begins_statement.Given as goal
-
--- the text of the whole begins as that of its leftmost part
-abbrev pub invariant-down : goal.invariant-down
-invariant-down l = begins_if (spelt (expr_written l.fn.expr 0)) ≡ begins_if (spelt (expr_written l.expr l.least))

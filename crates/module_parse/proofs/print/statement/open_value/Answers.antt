@@ -1,9 +1,0 @@
-use Rattle.std.proofs.Common.{ap, ◌∙◌, arith}
-use Rattle.std.specs.Prelude.{reverse}
-use Rattle.module_parse.specs.Pending.{pending}
-use Rattle.module_parse.proofs.Opened.{OnOk-then}
-use Rattle.module_parse.proofs.StatTexts.{value_says}
-use Rattle.module_parse.proofs.print.statement.open_value.Goals as goal
-
-pub returns : goal.returns
-returns c = OnOk-then c.push_all.result c.push_all.ensures (λ e. record { text = ap pending e ∙ value_says c.begins_statement-first.result c.args.value.now (pending (reverse c.args.stack.now.items)) c.begins_statement-first.ensures; less = rw e (omega arith) })

@@ -1,0 +1,9 @@
+pub mod Writings
+pub mod Rows
+pub mod Escaping
+pub mod Opened
+pub mod Layers
+pub mod StatTexts
+pub mod Fragmented
+pub mod Digits
+pub mod Heads

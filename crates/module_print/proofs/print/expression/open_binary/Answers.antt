@@ -1,0 +1,6 @@
+use Rattle.std.proofs.Common.{append_assoc, add-one, arith}
+use Rattle.module_print.proofs.Opened.{OnOk-map, spelling-append}
+use Rattle.module_print.proofs.print.expression.open_binary.Goals as goal
+
+pub returns : goal.returns
+returns c = OnOk-map c.push_all.result (λ e. record { text = rw e (simp (c.level-own.ensures, add-one, spelling-append, append_assoc)); less = rw e (omega arith) }) c.push_all.ensures

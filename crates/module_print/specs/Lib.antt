@@ -1,0 +1,4 @@
+pub mod Writing
+pub mod Printed
+pub mod Pending
+pub mod Fragments

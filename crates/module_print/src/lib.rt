@@ -1,0 +1,4 @@
+//! Modules, printed as canonical text.
+#![tactic(auto)]
+
+pub mod print;
