@@ -31,9 +31,9 @@ use Rattle.module_grammar.specs.Grammar.{Models, OneModel, MoreModels, Params, O
 use Rattle.module_grammar.specs.Grammar.{models_marks, params_marks, bracketed_marks, context_marks, signature_marks, helper_marks, modifier, words_marks, parent_marks, sources_marks, guard_marks, locals_marks, binds_marks, list_marks, targets_marks, to_marks, stat_marks, stats_marks, block_marks, start_marks, rest_marks, rule_marks, item_marks, items_marks, module_marks}
 use Rattle.module_grammar.specs.Grammar.{models, params, bracketed, context, signature, helper_of, modifiers, parent, sources, guard, locals, using, binds, bind_list, targets, to, stat, stats, block, start, rule_of, item, items, module_tree}
 use Rattle.module_grammar.specs.Grammar.{ContextFits, WordsFit, StartFits, HelperFits, GuardFits, LocalsFit, UsingFits, BindsFit, ListFits, TargetsFit, ToFits, StatFits, StatsFit, BlockFits, RestFits, RuleFits, ItemFits, ItemsFit, ModuleFits, IsModule}
-use Rattle.module_parse.specs.Machine.{ForTargets, ForSources, Owner, OfHelper, OfRule, ForParam, ForResult, ForLocalKind, Blocks, InDo, InIf, InElse, InFor, ForBody, ForGuard, ForLocal, ForBind, ForStat, ForAssigned, ForCondition, ForValues, Form, Plain, Modified}
-use Rattle.module_parse.specs.Machine.{AtModel, AtModelEnd, AtItem, AtHelper, AtDefColon, AtSignature, AtFirstParam, AtParam, InKind, AtWord, AtRuleName, AtRuleOpen, AtCalledBrace, AtFrom, AtSource, AtSourceEnd, AtRest, AtLocal, AtTo, AtTarget, AtBinds, AtFirstBind, AtBind, AtTargetEnd, AtStat}
-use Rattle.module_parse.specs.Machine.{Goes, Refuses, comma_or_close, with_all, target_end, at_binds, Read, after, run, read}
+use Rattle.module_states.specs.Machine.{ForTargets, ForSources, Owner, OfHelper, OfRule, ForParam, ForResult, ForLocalKind, Blocks, InDo, InIf, InElse, InFor, ForBody, ForGuard, ForLocal, ForBind, ForStat, ForAssigned, ForCondition, ForValues, Form, Plain, Modified}
+use Rattle.module_states.specs.Machine.{AtModel, AtModelEnd, AtItem, AtHelper, AtDefColon, AtSignature, AtFirstParam, AtParam, InKind, AtWord, AtRuleName, AtRuleOpen, AtCalledBrace, AtFrom, AtSource, AtSourceEnd, AtRest, AtLocal, AtTo, AtTarget, AtBinds, AtFirstBind, AtBind, AtTargetEnd, AtStat}
+use Rattle.module_states.specs.Machine.{Goes, Refuses, comma_or_close, with_all, target_end, at_binds, Read, after, run, read}
 use Rattle.module_parse.proofs.Inside.{Closing, reads_expr, reads_assigned, reads_kind}
 use Rattle.module_parse.proofs.Statements.{NotElse, begins_stat, expr_not_else, without_else}
 

@@ -12,7 +12,7 @@ use Rattle.ocl_parse.specs.declared.refusal.ParseRefusal.{ParseRefusal}
 use Rattle.ocl_parse.specs.declared.refusal.ParseRefusal.TheVariants as R
 use Rattle.ocl_parse.specs.Variables.{refused_at}
 use Rattle.module_grammar.specs.Marks.{Content, Mark, mark, content_of, marks}
-use Rattle.module_parse.specs.Machine.{State, Step, Goes, Refuses, TooDeep, step, after, run}
+use Rattle.module_states.specs.Machine.{State, Step, Goes, Refuses, TooDeep, step, after, run}
 use Rattle.module_parse.specs.Reading.{is_other, told, Fails, IsRefused}
 
 length_marks : (led : Bool) (ts : List Token) → length (marks led ts) ≡ length ts

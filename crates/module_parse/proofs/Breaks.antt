@@ -34,8 +34,8 @@ use Rattle.module_grammar.specs.Grammar.{WrittenHelper, Define, Guard, NoGuard, 
 use Rattle.module_grammar.specs.Grammar.{models_marks, bracketed_marks, context_marks, signature_marks, helper_marks, words_marks, parent_marks, sources_marks, guard_marks, locals_marks, using_marks, binds_marks, list_marks, targets_marks, to_marks, stat_marks, stats_marks, block_marks, start_marks, rest_marks, rule_marks, item_marks, items_marks, module_marks}
 use Rattle.module_grammar.specs.Grammar.{models, bracketed, context, signature, modifiers, parent, sources, locals, binds, targets, stats, start, items}
 use Rattle.module_grammar.specs.Grammar.{begins_if, Whole, HelperFits, GuardFits, LocalsFit, UsingFits, BindsFit, ListFits, TargetsFit, ToFits, StatFits, StatsFit, BlockFits, RestFits, RuleFits, ItemFits, ItemsFit, ModuleFits}
-use Rattle.module_parse.specs.Machine.{ForSources, ForResult, ForLocalKind, Blocks, InDo, InIf, InElse, InFor, ForBody, ForGuard, ForLocal, ForBind, ForStat, ForAssigned, ForCondition, ForValues}
-use Rattle.module_parse.specs.Machine.{State, AtStart, AtModel, AtItem, AtSignature, InKind, InExpr, AtSource, AtSourceEnd, AtRest, AtLocal, AtTo, AtTarget, AtBinds, AtFirstBind, AtBind, AtRuleOpen, AtStat, AtIf, run}
+use Rattle.module_states.specs.Machine.{ForSources, ForResult, ForLocalKind, Blocks, InDo, InIf, InElse, InFor, ForBody, ForGuard, ForLocal, ForBind, ForStat, ForAssigned, ForCondition, ForValues}
+use Rattle.module_states.specs.Machine.{State, AtStart, AtModel, AtItem, AtSignature, InKind, InExpr, AtSource, AtSourceEnd, AtRest, AtLocal, AtTo, AtTarget, AtBinds, AtFirstBind, AtBind, AtRuleOpen, AtStat, AtIf, run}
 use Rattle.module_parse.specs.TooDeep.{whole, helper_deep, guard_deep, locals_deep, using_deep, binds_deep, list_deep, targets_deep, to_deep, stat_deep, stats_deep, block_deep, rest_deep, rule_deep, item_deep, items_deep, deep_in}
 use Rattle.module_parse.specs.Laws.{Matches}
 use Rattle.module_parse.proofs.Inside.{reads_expr, reads_assigned, reads_kind}

@@ -3,8 +3,6 @@ use Rattle.std.proofs.Common.{◌≡◌, List, [], ◌∷◌, refl, true, false}
 use Rattle.std.specs.Prelude.{None, ◌++◌}
 use Rattle.atl_base.specs.declared.place.Place.{Place}
 use Rattle.atl_tree.specs.declared.expr.Expr.{Expr}
-use Rattle.atl_tree.specs.declared.module.Module.{Module}
-use Rattle.atl_tree.specs.declared.module.Rule.{Rule}
 use Rattle.atl_tree.specs.declared.module.Stat.{Stat}
 use Rattle.atl_tree.specs.declared.module.Stat.TheVariants as A
 use Rattle.ocl_parse.specs.declared.frame.Frame.TheVariants as F
@@ -14,25 +12,9 @@ use Rattle.ocl_parse.specs.declared.sign.Sign.TheVariants as S
 use Rattle.ocl_parse.specs.declared.symbol.Symbol.TheVariants.{Fixed}
 use Rattle.module_grammar.specs.declared.keyword.Keyword.TheVariants as W
 use Rattle.module_grammar.specs.Marks.{Content, Word, Shared}
-use Rattle.module_parse.specs.Machine.{Blocks, Goes, Refuses, AtElseBrace, AtFor, AtIf, AtUsing, ForCondition, ForContext, ForStat, InExpr, at_context, at_else, at_if, at_rest, at_stat, at_to, block_end, in_expr, in_kind}
-use Rattle.module_parse.specs.Nexts.{is_coll, is_else, is_open, is_using, opening_of}
-use Rattle.module_parse.specs.declared.reading.next.Opening.TheVariants as Q
-
-pub context_refuses : (m : Module) (t : Content) (p : Place) → is_coll t ≡ true → at_context m t p ≡ Refuses
-context_refuses m (Shared (Fixed (S.Coll w))) p h = refl
-context_refuses m t p h = cc
-
-pub context_begins : (m : Module) (t : Content) (p : Place) → is_coll t ≡ false → at_context m t p ≡ in_kind (ForContext m) N.Kind [] t p
-context_begins m (Shared (Fixed (S.Coll w))) p h = cc
-context_begins m t p h = refl
-
-pub rest_using : (m : Module) (r : Rule) (t : Content) → is_using t ≡ true → at_rest m r t ≡ Goes (AtUsing m r)
-rest_using m r (Word W.Using) h = refl
-rest_using m r t h = cc
-
-pub rest_else : (m : Module) (r : Rule) (t : Content) → is_using t ≡ false → at_rest m r t ≡ at_to m r t
-rest_else m r (Word W.Using) h = cc
-rest_else m r t h = refl
+use Rattle.module_states.specs.Machine.{Blocks, Goes, AtElseBrace, AtFor, AtIf, ForCondition, ForStat, InExpr, at_else, at_if, at_stat, block_end, in_expr}
+use Rattle.module_states.specs.Nexts.{is_else, is_open, opening_of}
+use Rattle.module_states.specs.declared.next.Opening.TheVariants as Q
 
 pub if_open : (k : Blocks) (ss : List Stat) (q : Place) (t : Content) (p : Place) → is_open t ≡ true → at_if true k ss q t p ≡ Goes (InExpr (ForCondition k ss) [] N.Operand)
 if_open k ss q (Shared (Fixed S.Open)) p h = refl

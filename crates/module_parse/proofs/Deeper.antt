@@ -16,7 +16,7 @@ use Rattle.ocl_parse.proofs.Halts.{Ends}
 use Rattle.ocl_parse.proofs.Deeper.{IsStuck as IsStuckInside, OnlyDeep as OnlyDeepInside, first_at, stuck as stuck_inside, stuck_only as stuck_only_inside, stuck_last as stuck_last_inside}
 use Rattle.module_grammar.specs.declared.keyword.Keyword.TheVariants as W
 use Rattle.module_grammar.specs.Marks.{Content, Word, Mark, symbol, shared}
-use Rattle.module_parse.specs.Machine.{ForExpr, ForStat, State, AtStart, AtItem, InExpr, Step, Goes, Refuses, TooDeep, expr_goes, assigns, step, End, Read, Expected, Deep, too_deep, finish, after, run}
+use Rattle.module_states.specs.Machine.{ForExpr, ForStat, State, AtStart, AtItem, InExpr, Step, Goes, Refuses, TooDeep, expr_goes, assigns, step, End, Read, Expected, Deep, too_deep, finish, after, run}
 use Rattle.module_parse.proofs.Stands.{Stands, StepStands}
 use Rattle.module_parse.proofs.SoundStats.{step_stands}
 use Rattle.module_parse.proofs.Ends.{completes}

@@ -7,7 +7,7 @@ use Rattle.ocl_parse.proofs.Found.{Cuts, cuts, head_or, tail_of}
 use Rattle.module_grammar.specs.Marks.{Mark}
 use Rattle.module_grammar.specs.Grammar.{WrittenModule, ModuleFits, module_marks}
 use Rattle.module_parse.specs.TooDeep.{deep_in}
-use Rattle.module_parse.specs.Machine.{State, AtStart, step, Expected, Deep, after, run, read}
+use Rattle.module_states.specs.Machine.{State, AtStart, step, Expected, Deep, after, run, read}
 use Rattle.module_parse.specs.Laws.{Matches}
 use Rattle.module_parse.proofs.Halts.{HaltsAt, Along, too_deep_all}
 use Rattle.module_parse.proofs.Loosely.{IsStuck}

@@ -18,7 +18,7 @@ use Rattle.ocl_parse.proofs.Agrees.{Agrees as AgreesInside, agrees as agrees_ins
 use Rattle.std.specs.Prelude.{None}
 use Rattle.module_grammar.specs.declared.keyword.Keyword.TheVariants as W
 use Rattle.module_grammar.specs.Marks.{Content, Word, Shared, Mark, symbol}
-use Rattle.module_parse.specs.Machine.{Blocks, ForExpr, ForStat, State, AtStart, AtCreate, AtItem, InExpr, AtStat, AtIf, AtElse, Step, Goes, Refuses, TooDeep, expr_goes, assigns, in_expr, at_stat, at_if, at_else, step, End, Read, Expected, Deep, too_deep, finish, after, run}
+use Rattle.module_states.specs.Machine.{Blocks, ForExpr, ForStat, State, AtStart, AtCreate, AtItem, InExpr, AtStat, AtIf, AtElse, Step, Goes, Refuses, TooDeep, expr_goes, assigns, in_expr, at_stat, at_if, at_else, step, End, Read, Expected, Deep, too_deep, finish, after, run}
 use Rattle.module_parse.proofs.Stands.{Stands, StepStands}
 use Rattle.module_parse.proofs.SoundStats.{step_stands}
 

@@ -11,7 +11,7 @@ use Rattle.ocl_parse.specs.declared.frame.Frame.TheVariants as F
 use Rattle.ocl_parse.specs.Trees.{binary, unary, within}
 use Rattle.module_grammar.specs.declared.keyword.Keyword.TheVariants as W
 use Rattle.module_grammar.specs.Marks.{Content, Word, Mark, symbol}
-use Rattle.module_parse.specs.Machine.{ForExpr, ForStat, InExpr, Step, expr_end, whole, expr_goes, assigns, End, Expected, Deep, too_deep, after, run}
+use Rattle.module_states.specs.Machine.{ForExpr, ForStat, InExpr, Step, expr_end, whole, expr_goes, assigns, End, Expected, Deep, too_deep, after, run}
 use Rattle.module_parse.specs.Laws.{inner}
 use Rattle.module_parse.proofs.Inside.{over_rest, rest_of}
 

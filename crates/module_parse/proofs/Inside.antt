@@ -23,7 +23,7 @@ use Rattle.ocl_parse.proofs.Accepts.{reads}
 use Rattle.module_grammar.specs.declared.keyword.Keyword.TheVariants as W
 use Rattle.module_grammar.specs.Marks.{Content, Shared, Mark, word, sign, called, shared, expression, kind_marks}
 use Rattle.module_grammar.specs.Grammar.{Whole}
-use Rattle.module_parse.specs.Machine.{Blocks, ForKind, ForExpr, ForStat, ForAssigned, InKind, InExpr, Goes, expr_end, whole, expr_goes, in_expr, after, run}
+use Rattle.module_states.specs.Machine.{Blocks, ForKind, ForExpr, ForStat, ForAssigned, InKind, InExpr, Goes, expr_end, whole, expr_goes, in_expr, after, run}
 use Rattle.atl_tree.specs.declared.module.Stat.{Stat}
 
 abbrev pub Got : EndInside → Type 0

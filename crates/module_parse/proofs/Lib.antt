@@ -7,7 +7,6 @@ pub mod Sound
 pub mod SoundRules
 pub mod SoundStats
 pub mod Contexts
-pub mod InKinds
 pub mod Passing
 pub mod Ends
 pub mod Within
@@ -24,7 +23,6 @@ pub mod SaysParts
 pub mod SaysModules
 pub mod Readings
 pub mod Symbols
-pub mod Behind
 pub mod Hands
 pub mod Unfinished
 pub mod Spacing

@@ -29,8 +29,8 @@ use Rattle.ocl_parse.proofs.Deeper.{IsStuck as IsStuckInside, IsTooDeep as IsToo
 use Rattle.module_grammar.specs.declared.keyword.Keyword.TheVariants as W
 use Rattle.module_grammar.specs.Marks.{Content, Word, Shared, symbol}
 use Rattle.module_grammar.specs.Parts.{Modifier, Modifiers, no_modifiers, Abstract, Unique, Lazy, has, may_stand, with_target}
-use Rattle.module_parse.specs.Machine.{Models as ModelsRead, ForTargets, ForSources, Owner, ForKind, ForContext, ForParam, ForResult, ForLocalKind, Blocks, ForExpr, ForBody, ForGuard, ForLocal, ForBind, ForStat, ForAssigned, ForCondition, ForValues, Form, Plain, Modified, Started, State, AtStart, AtModuleName, AtModuleEnd, AtCreate, AtModel, AtModelColon, AtMeta, AtModelEnd, AtItem, AtHelper, AtContext, AtDefColon, AtHelperName, AtSignature, AtResultColon, AtFirstParam, AtParam, AtParamColon, InKind, InExpr, AtWord, AtRule, AtRuleName, AtRuleOpen, AtParent, AtBrace, AtNoParams, AtCalledBrace, AtFrom, AtSource, AtSourceColon, AtClass, AtBang, AtClassName, AtSourceEnd, AtRest, AtUsing, AtLocal, AtLocalColon, AtTo, AtTarget, AtTargetColon, AtBinds, AtFirstBind, AtBind, AtGives, AtTargetEnd, AtDo, AtRuleEnd, AtStat, AtIf, AtIfBrace, AtElse, AtElseBrace, AtFor, AtForName, AtForIn, AtForBrace, Step, Goes, Refuses, TooDeep}
-use Rattle.module_parse.specs.Machine.{a_name, a_colon, a_semicolon, an_open, a_close, a_brace, a_closing_brace, an_equal, a_bang, an_in, a_gives, a_def, a_rule, comma_or_close, model_end, modified, at_word, at_item, at_helper, at_signature, first_param, rule_open, at_from, at_do, at_to, at_rest, at_guard, source_end, at_local, target_end, at_binds, first_bind, kind_end, kind_goes, expr_end, whole, expr_goes, assigns, in_kind, at_context, in_expr, at_stat, at_if, at_else, step}
+use Rattle.module_states.specs.Machine.{Models as ModelsRead, ForTargets, ForSources, Owner, ForKind, ForContext, ForParam, ForResult, ForLocalKind, Blocks, ForExpr, ForBody, ForGuard, ForLocal, ForBind, ForStat, ForAssigned, ForCondition, ForValues, Form, Plain, Modified, Started, State, AtStart, AtModuleName, AtModuleEnd, AtCreate, AtModel, AtModelColon, AtMeta, AtModelEnd, AtItem, AtHelper, AtContext, AtDefColon, AtHelperName, AtSignature, AtResultColon, AtFirstParam, AtParam, AtParamColon, InKind, InExpr, AtWord, AtRule, AtRuleName, AtRuleOpen, AtParent, AtBrace, AtNoParams, AtCalledBrace, AtFrom, AtSource, AtSourceColon, AtClass, AtBang, AtClassName, AtSourceEnd, AtRest, AtUsing, AtLocal, AtLocalColon, AtTo, AtTarget, AtTargetColon, AtBinds, AtFirstBind, AtBind, AtGives, AtTargetEnd, AtDo, AtRuleEnd, AtStat, AtIf, AtIfBrace, AtElse, AtElseBrace, AtFor, AtForName, AtForIn, AtForBrace, Step, Goes, Refuses, TooDeep}
+use Rattle.module_states.specs.Machine.{a_name, a_colon, a_semicolon, an_open, a_close, a_brace, a_closing_brace, an_equal, a_bang, an_in, a_gives, a_def, a_rule, comma_or_close, model_end, modified, at_word, at_item, at_helper, at_signature, first_param, rule_open, at_from, at_do, at_to, at_rest, at_guard, source_end, at_local, target_end, at_binds, first_bind, kind_end, kind_goes, expr_end, whole, expr_goes, assigns, in_kind, at_context, in_expr, at_stat, at_if, at_else, step}
 
 abbrev pub IsTooDeep : Step → Type 0
 IsTooDeep (TooDeep p) = Unit {0}

@@ -8,7 +8,7 @@ use Rattle.atl_tree.specs.declared.module.Module.{Module}
 use Rattle.module_grammar.specs.Marks.{Mark}
 use Rattle.module_grammar.specs.Grammar.{WrittenModule, ModuleFits, module_marks, module_tree, IsModule}
 use Rattle.module_parse.specs.TooDeep.{deep_in}
-use Rattle.module_parse.specs.Machine.{State, AtStart, Step, Goes, Refuses, TooDeep, step, End, Read, Expected, Deep, finish, after, run, read}
+use Rattle.module_states.specs.Machine.{State, AtStart, Step, Goes, Refuses, TooDeep, step, End, Read, Expected, Deep, finish, after, run, read}
 use Rattle.module_parse.specs.Laws.{GoesOn, StopsAt, NoneEnds, IsShallow, Matches, AllDeep, Tells, Exact, HasOne}
 use Rattle.module_parse.proofs.Accepts.{accepts}
 use Rattle.module_parse.proofs.Stands.{Stands}

@@ -7,7 +7,7 @@ use Rattle.atl_tree.specs.declared.module.Module.{Module}
 use Rattle.ocl_parse.proofs.Found.{cuts, head_or, tail_of}
 use Rattle.module_grammar.specs.Marks.{Mark}
 use Rattle.module_grammar.specs.Grammar.{module_tree, IsModule}
-use Rattle.module_parse.specs.Machine.{Read, Expected, Deep}
+use Rattle.module_states.specs.Machine.{Read, Expected, Deep}
 use Rattle.module_parse.specs.Laws.{StopsAt, Matches, Tells}
 
 abbrev number_or : ℕ → Option ℕ → ℕ

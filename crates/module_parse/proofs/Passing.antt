@@ -12,7 +12,7 @@ use Rattle.ocl_parse.specs.declared.refusal.ParseRefusal.{ParseRefusal}
 use Rattle.ocl_parse.specs.declared.refusal.ParseRefusal.TheVariants as R
 use Rattle.atl_tree.specs.Tokens.{Fails as FailsToCut}
 use Rattle.module_grammar.specs.Marks.{marks}
-use Rattle.module_parse.specs.Machine.{State, End, finish, read, run}
+use Rattle.module_states.specs.Machine.{State, End, finish, read, run}
 use Rattle.module_parse.specs.Reading.{first_refusal, module_in, parsed, told, Fails, Gives}
 
 -- behind the last token only the end is left

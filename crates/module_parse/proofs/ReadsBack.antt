@@ -11,7 +11,7 @@ use Rattle.atl_tree.specs.Tokens.{tokens_of}
 use Rattle.ocl_parse.specs.declared.refusal.ParseRefusal.{ParseRefusal}
 use Rattle.module_grammar.specs.Marks.{marks}
 use Rattle.module_grammar.specs.Grammar.{WrittenModule, ModuleFits, IsModule, module_tree}
-use Rattle.module_parse.specs.Machine.{End, Read, Expected, Deep, read}
+use Rattle.module_states.specs.Machine.{End, Read, Expected, Deep, read}
 use Rattle.module_print.specs.Writing.{module_written}
 use Rattle.module_parse.specs.Places.{placed_module}
 use Rattle.module_parse.specs.Reading.{told, parsed, module_of_text}

@@ -30,7 +30,7 @@ use Rattle.module_grammar.specs.Grammar.{Models, OneModel, MoreModels, Params, O
 use Rattle.module_grammar.specs.Grammar.{models_marks, params_marks, bracketed_marks, sources_marks, binds_marks, list_marks, targets_marks, item_marks, items_marks, module_marks}
 use Rattle.module_grammar.specs.Grammar.{models, params, bracketed, sources, binds, bind_list, targets, item, module_tree}
 use Rattle.module_grammar.specs.Grammar.{StartFits, ItemFits, ModuleFits}
-use Rattle.module_parse.specs.Machine.{Models as ModelsRead, ForTargets, ForSources, Owner, OfHelper, OfRule, ForKind, ForContext, ForParam, ForResult, ForLocalKind, AtModelEnd, AtContext, declared, model_end, with_all, kind_end, in_kind, at_context}
+use Rattle.module_states.specs.Machine.{Models as ModelsRead, ForTargets, ForSources, Owner, OfHelper, OfRule, ForKind, ForContext, ForParam, ForResult, ForLocalKind, AtModelEnd, AtContext, declared, model_end, with_all, kind_end, in_kind, at_context}
 use Rattle.module_parse.proofs.Stands.{upto, got, Front, FromSources, FromParams, front_rule, completed, ModuleHead, BeforeModel, OwnerHead, Free, KindFits, StandsKind, Stands, StepStands}
 
 -- one more behind a comma, or the first

@@ -24,7 +24,7 @@ use Rattle.module_grammar.specs.Grammar.{NoParams, Words, NoWords, MoreWords, No
 use Rattle.module_grammar.specs.Grammar.{bracketed_marks, words_marks, parent_marks, sources_marks, guard_marks, locals_marks, binds_marks, list_marks, to_marks, block_marks, start_marks, modifier}
 use Rattle.module_grammar.specs.Grammar.{modifiers, parent, sources, guard, locals, using, binds, bind_list, targets, to, block}
 use Rattle.module_grammar.specs.Grammar.{WordsFit, Whole, GuardFits, BindsFit, ListFits, TargetsFit, ToFits, BlockFits}
-use Rattle.module_parse.specs.Machine.{ForClass, ForSource, ForTarget, Form, Plain, Modified, Started, AtWord, AtRuleName, AtRuleOpen, AtParent, AtBrace, AtNoParams, AtCalledBrace, AtFrom, AtClassName, AtUsing, AtLocal, AtBinds, AtFirstBind, Goes, Refuses, modified, worded, at_word, at_item, rule_open, at_from, classed, at_do, at_to, at_rest, at_guard, source_end, at_local, target_end, at_binds, first_bind}
+use Rattle.module_states.specs.Machine.{ForClass, ForSource, ForTarget, Form, Plain, Modified, Started, AtWord, AtRuleName, AtRuleOpen, AtParent, AtBrace, AtNoParams, AtCalledBrace, AtFrom, AtClassName, AtUsing, AtLocal, AtBinds, AtFirstBind, Goes, Refuses, modified, worded, at_word, at_item, rule_open, at_from, classed, at_do, at_to, at_rest, at_guard, source_end, at_local, target_end, at_binds, first_bind}
 use Rattle.module_parse.proofs.Stands.{got, AllFit, Front, FromSources, FromParams, front_rule, finished, completed, finished_rule, finished_marks, finished_fits, Told, ModuleHead, RuleNameHead, MatchedHead, SourcesHead, CalledHead, RestHead, BeforeLocal, UsedHead, BeforeTo, TargetHead, BeforeBind, ToHead, TargetsRead, BlockHead, Stands, StepStands}
 use Rattle.module_parse.proofs.Sound.{add_source, source_marks, source_trees, add_bind, bind_marks, bind_trees, add_target, target_marks, target_trees, front_plain, starts_alone, unlazy, guard_on, item_stands}
 

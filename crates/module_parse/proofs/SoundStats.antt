@@ -33,7 +33,7 @@ use Rattle.module_grammar.specs.Grammar.{NoParams, NoContext, Attribute, Define,
 use Rattle.module_grammar.specs.Grammar.{context_marks, signature_marks, stat_marks, stats_marks, module_marks}
 use Rattle.module_grammar.specs.Grammar.{signature, using, to, stat, stats}
 use Rattle.module_grammar.specs.Grammar.{begins_if, Whole, StatFits, IsModule}
-use Rattle.module_parse.specs.Machine.{Blocks, InDo, InIf, InElse, InFor, ForExpr, ForBody, ForGuard, ForLocal, ForBind, ForStat, ForAssigned, ForCondition, ForValues, State, AtStart, AtModuleName, AtModuleEnd, AtCreate, AtModel, AtModelColon, AtMeta, AtModelEnd, AtItem, AtHelper, AtContext, AtDefColon, AtHelperName, AtSignature, AtResultColon, AtFirstParam, AtParam, AtParamColon, InKind, InExpr, AtWord, AtRule, AtRuleName, AtRuleOpen, AtParent, AtBrace, AtNoParams, AtCalledBrace, AtFrom, AtSource, AtSourceColon, AtClass, AtBang, AtClassName, AtSourceEnd, AtRest, AtUsing, AtLocal, AtLocalColon, AtTo, AtTarget, AtTargetColon, AtBinds, AtFirstBind, AtBind, AtGives, AtTargetEnd, AtDo, AtRuleEnd, AtStat, AtIf, AtIfBrace, AtElse, AtElseBrace, AtFor, AtForName, AtForIn, AtForBrace, Step, Goes, Refuses, TooDeep, block_end, expr_end, whole, expr_goes, in_expr, at_stat, at_if, at_else, step, End as EndRead, Read, too_deep, finish, after, run}
+use Rattle.module_states.specs.Machine.{Blocks, InDo, InIf, InElse, InFor, ForExpr, ForBody, ForGuard, ForLocal, ForBind, ForStat, ForAssigned, ForCondition, ForValues, State, AtStart, AtModuleName, AtModuleEnd, AtCreate, AtModel, AtModelColon, AtMeta, AtModelEnd, AtItem, AtHelper, AtContext, AtDefColon, AtHelperName, AtSignature, AtResultColon, AtFirstParam, AtParam, AtParamColon, InKind, InExpr, AtWord, AtRule, AtRuleName, AtRuleOpen, AtParent, AtBrace, AtNoParams, AtCalledBrace, AtFrom, AtSource, AtSourceColon, AtClass, AtBang, AtClassName, AtSourceEnd, AtRest, AtUsing, AtLocal, AtLocalColon, AtTo, AtTarget, AtTargetColon, AtBinds, AtFirstBind, AtBind, AtGives, AtTargetEnd, AtDo, AtRuleEnd, AtStat, AtIf, AtIfBrace, AtElse, AtElseBrace, AtFor, AtForName, AtForIn, AtForBrace, Step, Goes, Refuses, TooDeep, block_end, expr_end, whole, expr_goes, in_expr, at_stat, at_if, at_else, step, End as EndRead, Read, too_deep, finish, after, run}
 use Rattle.module_parse.proofs.Stands.{front_rule, completed, Told, ModuleHead, InBlock, ElseHead, ExprHead, Begun, Stands, StepStands}
 use Rattle.ocl_parse.specs.Depth.{deep, is_shallow}
 use Rattle.ocl_parse.specs.Machine.{step as step_inside, last as last_inside, over, after as after_inside, run as run_inside, Step as StepInside, Goes as GoesInside, Stops as StopsInside, Refuses as RefusesInside, TooDeep as TooDeepInside, End as EndInside, Read as ReadInside, Expected as ExpectedInside, Deep as DeepInside}

@@ -33,7 +33,7 @@ use Rattle.module_grammar.specs.Grammar.{Models, Params, Bracketed, Context, Sig
 use Rattle.module_grammar.specs.Grammar.{models_marks, params_marks, bracketed_marks, context_marks, signature_marks, words_marks, parent_marks, sources_marks, guard_marks, locals_marks, using_marks, binds_marks, targets_marks, to_marks, stats_marks, block_marks, start_marks, rest_marks, rule_marks, module_marks}
 use Rattle.module_grammar.specs.Grammar.{models, params, bracketed, context, signature, modifiers, parent, sources, guard, locals, using, binds, targets, to, stats, block, start, rule_of, module_tree}
 use Rattle.module_grammar.specs.Grammar.{IsContext, ContextFits, WordsFit, StartFits, begins_if, Whole, GuardFits, LocalsFit, UsingFits, BindsFit, TargetsFit, ToFits, StatsFit, BlockFits, RuleFits, ModuleFits}
-use Rattle.module_parse.specs.Machine.{Models as ModelsRead, ForTargets, ForSources, Owner, OfHelper, OfRule, ForClass, ForSource, ForTarget, ForKind, ForContext, ForParam, ForResult, ForLocalKind, Blocks, InDo, InIf, InElse, InFor, ForExpr, ForBody, ForGuard, ForLocal, ForBind, ForStat, ForAssigned, ForCondition, ForValues, Form, Plain, Modified, Started, State, AtStart, AtModuleName, AtModuleEnd, AtCreate, AtModel, AtModelColon, AtMeta, AtModelEnd, AtItem, AtHelper, AtContext, AtDefColon, AtHelperName, AtSignature, AtResultColon, AtFirstParam, AtParam, AtParamColon, InKind, InExpr, AtWord, AtRule, AtRuleName, AtRuleOpen, AtParent, AtBrace, AtNoParams, AtCalledBrace, AtFrom, AtSource, AtSourceColon, AtClass, AtBang, AtClassName, AtSourceEnd, AtRest, AtUsing, AtLocal, AtLocalColon, AtTo, AtTarget, AtTargetColon, AtBinds, AtFirstBind, AtBind, AtGives, AtTargetEnd, AtDo, AtRuleEnd, AtStat, AtIf, AtIfBrace, AtElse, AtElseBrace, AtFor, AtForName, AtForIn, AtForBrace, Step, Goes}
+use Rattle.module_states.specs.Machine.{Models as ModelsRead, ForTargets, ForSources, Owner, OfHelper, OfRule, ForClass, ForSource, ForTarget, ForKind, ForContext, ForParam, ForResult, ForLocalKind, Blocks, InDo, InIf, InElse, InFor, ForExpr, ForBody, ForGuard, ForLocal, ForBind, ForStat, ForAssigned, ForCondition, ForValues, Form, Plain, Modified, Started, State, AtStart, AtModuleName, AtModuleEnd, AtCreate, AtModel, AtModelColon, AtMeta, AtModelEnd, AtItem, AtHelper, AtContext, AtDefColon, AtHelperName, AtSignature, AtResultColon, AtFirstParam, AtParam, AtParamColon, InKind, InExpr, AtWord, AtRule, AtRuleName, AtRuleOpen, AtParent, AtBrace, AtNoParams, AtCalledBrace, AtFrom, AtSource, AtSourceColon, AtClass, AtBang, AtClassName, AtSourceEnd, AtRest, AtUsing, AtLocal, AtLocalColon, AtTo, AtTarget, AtTargetColon, AtBinds, AtFirstBind, AtBind, AtGives, AtTargetEnd, AtDo, AtRuleEnd, AtStat, AtIf, AtIfBrace, AtElse, AtElseBrace, AtFor, AtForName, AtForIn, AtForBrace, Step, Goes}
 
 -- what stands before a comma, and the comma; or nothing yet
 abbrev pub upto : {A : Type 0} → (A → List Mark) → Option (A × Place) → List Mark → List Mark

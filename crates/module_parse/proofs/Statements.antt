@@ -18,7 +18,7 @@ use Rattle.ocl_parse.specs.Machine.{run as run_inside, Goes as GoesInside, Read 
 use Rattle.ocl_parse.proofs.Accepts.{starts}
 use Rattle.module_grammar.specs.Marks.{Content, Shared, Mark, sign, shared, expression}
 use Rattle.module_grammar.specs.Grammar.{begins_if, Whole}
-use Rattle.module_parse.specs.Machine.{Blocks, ForStat, InExpr, AtStat, AtIf, AtElse, run}
+use Rattle.module_states.specs.Machine.{Blocks, ForStat, InExpr, AtStat, AtIf, AtElse, run}
 use Rattle.module_parse.proofs.Inside.{got, read_alone}
 
 abbrev pub NoElse : Content → Type 0

@@ -8,31 +8,31 @@ use Rattle.atl_tree.specs.declared.module.Target.{Target}
 use Rattle.atl_tree.specs.declared.name.Name.{Name}
 use Rattle.atl_tree.specs.declared.token.Token.{Token}
 use Rattle.ocl_parse.specs.declared.refusal.ParseRefusal.TheVariants as R
-use Rattle.module_parse.specs.Machine.{finish}
+use Rattle.module_states.specs.Machine.{finish}
 use Rattle.module_parse.specs.Reading.{told}
-use Rattle.module_parse.specs.Nexts.{state_of, header_of, helping_of, params_of, head_of, rule_of, colon_of, class_of, target_of, stating_of}
-use Rattle.module_parse.specs.declared.reading.next.Header.{Header}
-use Rattle.module_parse.specs.declared.reading.next.Header.TheVariants as H
-use Rattle.module_parse.specs.declared.reading.next.Helping.{Helping}
-use Rattle.module_parse.specs.declared.reading.next.Helping.TheVariants as L
-use Rattle.module_parse.specs.declared.reading.next.Params.{Params}
-use Rattle.module_parse.specs.declared.reading.next.Params.TheVariants as P
-use Rattle.module_parse.specs.declared.reading.next.Head.{Head}
-use Rattle.module_parse.specs.declared.reading.next.Head.TheVariants as D
-use Rattle.module_parse.specs.declared.reading.next.Point.{Point}
-use Rattle.module_parse.specs.declared.reading.next.Point.TheVariants as T
-use Rattle.module_parse.specs.declared.reading.next.Colon.{Colon}
-use Rattle.module_parse.specs.declared.reading.next.Colon.TheVariants as N
-use Rattle.module_parse.specs.declared.reading.next.Class.{Class}
-use Rattle.module_parse.specs.declared.reading.next.Class.TheVariants as C
-use Rattle.module_parse.specs.declared.reading.next.TargetPoint.{TargetPoint}
-use Rattle.module_parse.specs.declared.reading.next.TargetPoint.TheVariants as G
-use Rattle.module_parse.specs.declared.reading.next.Stating.{Stating}
-use Rattle.module_parse.specs.declared.reading.next.Stating.TheVariants as S
-use Rattle.module_parse.specs.declared.reading.next.ForExpr.{ForExpr}
-use Rattle.module_parse.specs.declared.reading.next.Part.{Part}
-use Rattle.module_parse.specs.declared.reading.next.Next.{Next}
-use Rattle.module_parse.specs.declared.reading.next.Next.TheVariants as X
+use Rattle.module_states.specs.Nexts.{state_of, header_of, helping_of, params_of, head_of, rule_of, colon_of, class_of, target_of, stating_of}
+use Rattle.module_states.specs.declared.next.Header.{Header}
+use Rattle.module_states.specs.declared.next.Header.TheVariants as H
+use Rattle.module_states.specs.declared.next.Helping.{Helping}
+use Rattle.module_states.specs.declared.next.Helping.TheVariants as L
+use Rattle.module_states.specs.declared.next.Params.{Params}
+use Rattle.module_states.specs.declared.next.Params.TheVariants as P
+use Rattle.module_states.specs.declared.next.Head.{Head}
+use Rattle.module_states.specs.declared.next.Head.TheVariants as D
+use Rattle.module_states.specs.declared.next.Point.{Point}
+use Rattle.module_states.specs.declared.next.Point.TheVariants as T
+use Rattle.module_states.specs.declared.next.Colon.{Colon}
+use Rattle.module_states.specs.declared.next.Colon.TheVariants as N
+use Rattle.module_states.specs.declared.next.Class.{Class}
+use Rattle.module_states.specs.declared.next.Class.TheVariants as C
+use Rattle.module_states.specs.declared.next.TargetPoint.{TargetPoint}
+use Rattle.module_states.specs.declared.next.TargetPoint.TheVariants as G
+use Rattle.module_states.specs.declared.next.Stating.{Stating}
+use Rattle.module_states.specs.declared.next.Stating.TheVariants as S
+use Rattle.module_states.specs.declared.next.ForExpr.{ForExpr}
+use Rattle.module_states.specs.declared.next.Part.{Part}
+use Rattle.module_states.specs.declared.next.Next.{Next}
+use Rattle.module_states.specs.declared.next.Next.TheVariants as X
 
 in_header : (h : Header) (ts : List Token) (end : Place) → told ts end (finish true (header_of h)) ≡ Err (R.Expected end)
 in_header H.Start ts end = refl

@@ -17,7 +17,7 @@ use Rattle.ocl_parse.proofs.Deeper.{OnlyDeep, stuck, stuck_only}
 use Rattle.ocl_parse.proofs.Breaks.{Broken as BrokenInside, tries}
 use Rattle.module_grammar.specs.Marks.{Shared, Mark, shared, expression}
 use Rattle.module_grammar.specs.Grammar.{Whole}
-use Rattle.module_parse.specs.Machine.{ForExpr, State, InExpr, expr_goes, too_deep, Expected, Deep, after, run}
+use Rattle.module_states.specs.Machine.{ForExpr, State, InExpr, expr_goes, too_deep, Expected, Deep, after, run}
 use Rattle.module_parse.specs.Laws.{Matches}
 
 -- the reading waits for an expression behind so many marks, and the one that begins there is too deep, whatever stands

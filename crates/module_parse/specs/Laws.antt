@@ -8,7 +8,7 @@ use Rattle.module_grammar.specs.Grammar.{WrittenModule, module_marks, module_tre
 use Rattle.module_print.specs.Writing.{module_written}
 use Rattle.module_parse.specs.Places.{placed_module}
 use Rattle.module_parse.specs.TooDeep.{deep_in}
-use Rattle.module_parse.specs.Machine.{End, Read, Expected, Deep, read}
+use Rattle.module_states.specs.Machine.{End, Read, Expected, Deep, read}
 
 -- some module of the grammar, whatever its depth, begins so
 abbrev pub GoesOn : List Mark → Type 0

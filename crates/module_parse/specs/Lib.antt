@@ -1,8 +1,6 @@
-pub mod Machine
 pub mod TooDeep
 pub mod Laws
 pub mod Reading
-pub mod Nexts
 pub mod Places
 pub mod Held
 pub mod ReadBack

@@ -13,7 +13,7 @@ use Rattle.ocl_parse.specs.declared.refusal.ParseRefusal.TheVariants as R
 use Rattle.ocl_parse.specs.Variables.{refused_at}
 use Rattle.module_grammar.specs.declared.keyword.Keyword.TheVariants as W
 use Rattle.module_grammar.specs.Marks.{Content, Word, Mark, marks}
-use Rattle.module_parse.specs.Machine.{End, Read, Expected, Deep, read}
+use Rattle.module_states.specs.Machine.{End, Read, Expected, Deep, read}
 
 -- whether a mark belongs to a unit of another sort: `query` and `library` where the text begins, `uses` and `refining`
 -- everywhere

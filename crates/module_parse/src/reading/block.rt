@@ -3,23 +3,23 @@ ghost use Rattle.std.specs.Prelude.{◌≡◌, ◌++◌, ◌∷◌, [], None, If
 ghost use Rattle.atl_tree.specs.declared.module.Stat.TheVariants as A;
 ghost use Rattle.ocl_parse.specs.declared.frame.Frame.TheVariants as F;
 ghost use Rattle.ocl_parse.specs.declared.frame.Next.TheVariants as N;
-ghost use Rattle.module_parse.specs.Machine.{AtStat, ForStat, ForValues, InExpr, an_in as an_in_of, at_else as at_else_of, at_if as at_if_of, at_stat as at_stat_of, block_end as block_end_of, in_expr as in_expr_of, step as stepped};
-ghost use Rattle.module_parse.specs.Nexts.{blocks_in, blocks_of, is_else as is_else_of, is_open as is_open_of, meant, opening_of, state_of, stating_of, step_of};
-ghost use Rattle.module_parse.specs.declared.reading.next.Stating.TheVariants as S;
+ghost use Rattle.module_states.specs.Machine.{AtStat, ForStat, ForValues, InExpr, an_in as an_in_of, at_else as at_else_of, at_if as at_if_of, at_stat as at_stat_of, block_end as block_end_of, in_expr as in_expr_of, step as stepped};
+ghost use Rattle.module_states.specs.Nexts.{blocks_in, blocks_of, is_else as is_else_of, is_open as is_open_of, meant, opening_of, state_of, stating_of, step_of};
+ghost use Rattle.module_states.specs.declared.next.Stating.TheVariants as S;
 
-use crate::reading::content::Content;
-use crate::reading::expr::{begin, stat_ends, step as step_expr};
-use crate::reading::next::{
-    Block, Draft, ForExpr, Move, Next, Opening, Outer, Part, Point, Stating,
-};
-use crate::reading::parts::with_block;
-use crate::reading::wanted::{a_brace, a_name, an_in, an_open};
 use atl_base::place::Place;
 use atl_tree::expr::Expr;
 use atl_tree::module::Stat;
 use atl_tree::name::Name;
 use atl_tree::statements::Statements;
+use module_elements::expr::{begin, stat_ends, step as step_expr};
 use module_grammar::keyword::Keyword;
+use module_states::content::Content;
+use module_states::next::{
+    Block, Draft, ForExpr, Move, Next, Opening, Outer, Part, Point, Stating,
+};
+use module_states::parts::with_block;
+use module_states::wanted::{a_brace, a_name, an_in, an_open};
 use ocl_parse::frame::{Frame, Next as NextInside};
 use ocl_parse::sign::{Ender, Sign};
 use ocl_parse::stack::Stack;

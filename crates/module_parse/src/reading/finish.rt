@@ -2,14 +2,14 @@
 ghost use Rattle.std.specs.Prelude.{List, MatchResult, true};
 ghost use Rattle.atl_tree.specs.declared.token.Token.{Token};
 ghost use Rattle.ocl_parse.specs.Machine.{last as last_of};
-ghost use Rattle.module_parse.specs.Machine.{finish as finish_of, too_deep as too_deep_of};
+ghost use Rattle.module_states.specs.Machine.{finish as finish_of, too_deep as too_deep_of};
 ghost use Rattle.module_parse.specs.Reading.{told, Gives, Fails};
-ghost use Rattle.module_parse.specs.Nexts.{state_of};
+ghost use Rattle.module_states.specs.Nexts.{state_of};
 
-use crate::reading::next::{Next, Part};
-use crate::reading::wanted::leave;
 use atl_base::place::Place;
 use atl_tree::module::Module;
+use module_states::next::{Next, Part};
+use module_states::wanted::leave;
 use ocl_parse::frame::Move as MoveInside;
 use ocl_parse::refusal::ParseRefusal;
 use ocl_parse::step::last;

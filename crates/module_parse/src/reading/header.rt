@@ -1,16 +1,16 @@
 // The header: the module's name, and its models.
 ghost use Rattle.std.specs.Prelude.{◌≡◌, IfOk, true};
-ghost use Rattle.module_parse.specs.Machine.{ForSources, ForTargets, declared as declared_of, model_end as model_end_of, step as stepped};
-ghost use Rattle.module_parse.specs.Nexts.{header_of, meant, models_of, step_of};
-ghost use Rattle.module_parse.specs.declared.reading.next.Header.TheVariants as H;
+ghost use Rattle.module_states.specs.Machine.{ForSources, ForTargets, declared as declared_of, model_end as model_end_of, step as stepped};
+ghost use Rattle.module_states.specs.Nexts.{header_of, meant, models_of, step_of};
+ghost use Rattle.module_states.specs.declared.next.Header.TheVariants as H;
 
-use crate::reading::content::Content;
-use crate::reading::next::{Header, Models, Move, Next};
-use crate::reading::wanted::{a_colon, a_name, a_semicolon};
 use atl_base::place::Place;
 use atl_tree::module::{ModelDecl, Module};
 use atl_tree::name::Name;
 use module_grammar::keyword::Keyword;
+use module_states::content::Content;
+use module_states::next::{Header, Models, Move, Next};
+use module_states::wanted::{a_colon, a_name, a_semicolon};
 use ocl_parse::sign::{Ender, Sign};
 use ocl_parse::symbol::Symbol;
 use sqlite_items::Items;

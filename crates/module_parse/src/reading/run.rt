@@ -3,19 +3,20 @@ ghost use Rattle.std.specs.Prelude.{◌≡◌, ◌+◌, ◌<◌, ◌≤◌, ◌|
 ghost use Rattle.atl_tree.specs.Tokens.{begins_arrow as begins_arrow_of};
 ghost use Rattle.ocl_parse.specs.Variables.{refused_at};
 ghost use Rattle.module_grammar.specs.Marks.{marks};
-ghost use Rattle.module_parse.specs.Machine.{run as run_of};
-ghost use Rattle.module_parse.specs.Reading.{module_in, told, Gives, Fails, IsRefused};
-ghost use Rattle.module_parse.specs.Nexts.{state_of};
+ghost use Rattle.module_states.specs.Machine.{run as run_of};
+ghost use Rattle.module_parse.specs.Reading.{is_other as is_other_of, module_in, told, Gives, Fails, IsRefused};
+ghost use Rattle.module_states.specs.Nexts.{meant, state_of};
 
-use crate::reading::content::{is_other, read_content};
 use crate::reading::finish::finish;
-use crate::reading::next::{Header, Move, Next};
 use crate::reading::step::step;
-use crate::reading::wanted::leave;
 use atl_base::place::Place;
 use atl_tree::judge::{begins_arrow, leads_name};
 use atl_tree::module::Module;
 use atl_tree::token::Token;
+use module_grammar::keyword::Keyword;
+use module_states::content::{Content, read_content};
+use module_states::next::{Header, Move, Next};
+use module_states::wanted::leave;
 use ocl_parse::refusal::ParseRefusal;
 use ocl_parse::variable::refused_place;
 use std::alloc::Global;
@@ -26,6 +27,19 @@ fn is_named(tokens: &[Token], at: usize, led: bool) -> bool
     ensures { result ≡ (led || begins_arrow_of (drop (at + 1) tokens.now)) }
 {
     led || begins_arrow(&tokens[at + 1..])
+}
+
+// Whether a token belongs to a unit of another sort, where `first` says that the text begins with it.
+fn is_other(first: bool, content: &Content) -> bool
+    ensures { result ≡ is_other_of first (meant content.now) }
+{
+    match content {
+        Content::Word(Keyword::Query) => first,
+        Content::Word(Keyword::Library) => first,
+        Content::Word(Keyword::Uses) => true,
+        Content::Word(Keyword::Refining) => true,
+        _ => false,
+    }
 }
 
 // The refusal where the module can't go on with the i-th token, which stands at this place; `other` says that it belongs to a

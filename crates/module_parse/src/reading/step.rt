@@ -1,12 +1,13 @@
 // One step of reading.
 ghost use Rattle.std.specs.Prelude.{◌≡◌, IfOk, true};
-ghost use Rattle.module_parse.specs.Machine.{step as stepped};
-ghost use Rattle.module_parse.specs.Nexts.{meant, state_of, step_of};
+ghost use Rattle.module_states.specs.Machine.{step as stepped};
+ghost use Rattle.module_states.specs.Nexts.{meant, state_of, step_of};
 
-use crate::reading::content::Content;
-use crate::reading::next::{Move, Next};
-use crate::reading::{block, expr, head, header, helper, item, kind, params, rule, target};
+use crate::reading::{block, header};
 use atl_base::place::Place;
+use module_elements::{expr, head, helper, item, kind, params, rule, target};
+use module_states::content::Content;
+use module_states::next::{Move, Next};
 use std::alloc::{AllocError, Global};
 
 /// What a token leads to.

@@ -1,6 +1,6 @@
 use Rattle.std.proofs.Common.{◌∙◌, ap}
 use Rattle.ocl_parse.specs.Variables.{refused_at}
-use Rattle.module_parse.specs.Nexts.{meant, state_of, step_of}
+use Rattle.module_states.specs.Nexts.{meant, state_of, step_of}
 use Rattle.module_parse.proofs.Advancing.{fails_as, run_deep, run_goes, run_refuses}
 use Rattle.module_parse.proofs.reading.run.advance.Goals as goal
 

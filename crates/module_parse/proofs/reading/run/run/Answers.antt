@@ -1,5 +1,5 @@
 use Rattle.std.proofs.Common.{arith}
-use Rattle.module_parse.specs.Nexts.{state_of}
+use Rattle.module_states.specs.Nexts.{state_of}
 use Rattle.module_parse.proofs.Passing.{ends}
 use Rattle.module_parse.proofs.reading.run.run.Goals as goal
 

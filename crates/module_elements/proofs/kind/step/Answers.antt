@@ -1,6 +1,6 @@
-use Rattle.module_parse.specs.Nexts.{for_kind_of, meant}
-use Rattle.module_parse.proofs.InKinds.{in_kind_goes}
-use Rattle.module_parse.proofs.reading.kind.step.Goals as goal
+use Rattle.module_states.specs.Nexts.{for_kind_of, meant}
+use Rattle.module_elements.proofs.InKinds.{in_kind_goes}
+use Rattle.module_elements.proofs.kind.step.Goals as goal
 
 pub returns-in_default : goal.returns-in_default
 returns-in_default c =

@@ -5,8 +5,8 @@ use Rattle.atl_tree.specs.declared.expr.Expr.{Expr}
 use Rattle.ocl_parse.specs.declared.symbol.Symbol.TheVariants.{Number, Words, Name as Named, Fixed}
 use Rattle.ocl_parse.specs.Machine.{over, Step as StepInside, Goes as GoesInside, Stops as StopsInside, Refuses as RefusesInside, TooDeep as TooDeepInside, End as EndInside, Read as ReadInside, Expected as ExpectedInside, Deep as DeepInside}
 use Rattle.module_grammar.specs.Marks.{Content, Word, Shared}
-use Rattle.module_parse.specs.Nexts.{sign_of, signed}
-use Rattle.module_parse.specs.Machine.{State, ForExpr, ForBody, ForGuard, ForLocal, ForBind, ForStat, ForAssigned, ForCondition, ForValues, a_semicolon, a_close, comma_or_close, expr_end, expr_goes, whole}
+use Rattle.module_states.specs.Nexts.{sign_of, signed}
+use Rattle.module_states.specs.Machine.{State, ForExpr, ForBody, ForGuard, ForLocal, ForBind, ForStat, ForAssigned, ForCondition, ForValues, a_semicolon, a_close, comma_or_close, expr_end, expr_goes, whole}
 
 semicolon : (t : Content) (u : State) → a_semicolon t u ≡ a_semicolon (signed (sign_of t)) u
 semicolon (Word k) u = refl

@@ -1,21 +1,21 @@
 // The classes of sources and targets, and the bindings of targets.
 ghost use Rattle.std.specs.Prelude.{◌≡◌, IfOk, true};
-ghost use Rattle.module_parse.specs.Machine.{AtGives, AtTargetEnd, Goes, a_name as a_name_of, at_binds as at_binds_of, classed as classed_of, first_bind as first_bind_of, step as stepped, target_end as target_end_of};
+ghost use Rattle.module_states.specs.Machine.{AtGives, AtTargetEnd, Goes, a_name as a_name_of, at_binds as at_binds_of, classed as classed_of, first_bind as first_bind_of, step as stepped, target_end as target_end_of};
 ghost use Rattle.module_grammar.specs.Parts.{class as class_with, with_target as with_target_of};
-ghost use Rattle.module_parse.specs.Nexts.{class_of, classing_of, meant, state_of, step_of, target_of};
-ghost use Rattle.module_parse.specs.declared.reading.next.Class.TheVariants as C;
+ghost use Rattle.module_states.specs.Nexts.{class_of, classing_of, meant, state_of, step_of, target_of};
+ghost use Rattle.module_states.specs.declared.next.Class.TheVariants as C;
 
-use crate::reading::content::Content;
-use crate::reading::expr::begin;
-use crate::reading::next::{
-    Class, Classing, Draft, ForExpr, Move, Next, Point, Purpose, TargetPoint,
-};
-use crate::reading::parts::{new_target, with_source, with_target};
-use crate::reading::rule::target_end;
-use crate::reading::wanted::{a_bang, a_gives, a_name};
+use crate::expr::begin;
+use crate::rule::target_end;
 use atl_base::place::Place;
 use atl_tree::module::{Pattern, Target};
 use atl_tree::name::{ClassRef, Name};
+use module_states::content::Content;
+use module_states::next::{
+    Class, Classing, Draft, ForExpr, Move, Next, Point, Purpose, TargetPoint,
+};
+use module_states::parts::{new_target, with_source, with_target};
+use module_states::wanted::{a_bang, a_gives, a_name};
 use ocl_parse::sign::{Ender, Sign};
 use ocl_parse::symbol::Symbol;
 use sqlite_items::Boxed;

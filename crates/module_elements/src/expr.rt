@@ -3,23 +3,23 @@ ghost use Rattle.std.specs.Prelude.{◌≡◌, ◌++◌, ◌∷◌, [], IfOk, tr
 ghost use Rattle.ocl_parse.specs.Machine.{over as over_of, step as stepped};
 ghost use Rattle.ocl_parse.specs.declared.frame.Next.TheVariants as N;
 ghost use Rattle.module_grammar.specs.Marks.{Word, symbol as symbol_in};
-ghost use Rattle.module_parse.specs.Machine.{AtStat, ForAssigned, InExpr, a_semicolon as a_semicolon_of, expr_end as expr_end_of, expr_goes as expr_goes_of, in_expr as in_expr_of, whole as whole_of, Goes};
-ghost use Rattle.module_parse.specs.Nexts.{blocks_of, for_expr_of, meant, signed, state_of, step_of};
+ghost use Rattle.module_states.specs.Machine.{AtStat, ForAssigned, InExpr, a_semicolon as a_semicolon_of, expr_end as expr_end_of, expr_goes as expr_goes_of, in_expr as in_expr_of, whole as whole_of, Goes};
+ghost use Rattle.module_states.specs.Nexts.{blocks_of, for_expr_of, meant, signed, state_of, step_of};
 ghost use Rattle.module_grammar.specs.declared.keyword.Keyword.TheVariants as W;
-ghost use Rattle.module_parse.specs.declared.reading.next.ForExpr.TheVariants as E;
+ghost use Rattle.module_states.specs.declared.next.ForExpr.TheVariants as E;
 
-use crate::reading::content::{Content, sign, symbol};
-use crate::reading::next::{
-    Block, Draft, ForExpr, Move, Next, Part, Point, Signature, Stating, TargetPoint,
-};
-use crate::reading::parts::{with_bind, with_guard, with_item, with_local};
-use crate::reading::target::bound;
+use crate::target::bound;
 use atl_base::place::Place;
 use atl_tree::expr::Expr;
 use atl_tree::kind::KindNode;
 use atl_tree::module::{Bind, Helper, Item, LocalVar, Stat, Target};
 use atl_tree::name::Name;
 use module_grammar::keyword::Keyword;
+use module_states::content::{Content, sign, symbol};
+use module_states::next::{
+    Block, Draft, ForExpr, Move, Next, Part, Point, Signature, Stating, TargetPoint,
+};
+use module_states::parts::{with_bind, with_guard, with_item, with_local};
 use ocl_parse::frame::{Move as MoveInside, Next as NextInside};
 use ocl_parse::parse::over;
 use ocl_parse::sign::{Ender, Sign};

@@ -1,9 +1,9 @@
 // The parts of a module's tree, and what they become as they grow.
 ghost use Rattle.std.specs.Prelude.{◌≡◌, [], IfOk};
 ghost use Rattle.module_grammar.specs.Parts.{bare as bare_of, with_item as with_item_of, with_parent as with_parent_of, with_params as with_params_of, with_source as with_source_of, with_guard as with_guard_of, with_local as with_local_of, with_target as with_target_of, with_block as with_block_of, with_bind as with_bind_of, target as target_with};
-ghost use Rattle.module_parse.specs.Nexts.{drafted};
+ghost use Rattle.module_states.specs.Nexts.{drafted};
 
-use crate::reading::next::Draft;
+use crate::next::Draft;
 use atl_tree::expr::Expr;
 use atl_tree::module::{Bind, Item, LocalVar, Module, Param, Pattern, Rule, RuleSort, Target};
 use atl_tree::name::{ClassRef, Name};
@@ -11,6 +11,7 @@ use atl_tree::statements::Statements;
 use sqlite_items::{Boxed, Items};
 use std::alloc::{AllocError, Global};
 
+/// A module with one item more.
 pub fn with_item(before: Module, item: Item) -> Result<Module, AllocError>
     ensures { IfOk result (λ m. m ≡ with_item_of before item) }
 {
@@ -37,6 +38,7 @@ pub fn bare(alloc: Global, sort: RuleSort, is_abstract: bool, name: Name) -> Rul
     }
 }
 
+/// A rule that extends another.
 pub fn with_parent(
     alloc: Global,
     draft: Boxed<Draft>,
@@ -64,6 +66,7 @@ pub fn with_params(
     Boxed::new(alloc, draft)
 }
 
+/// A rule with one source more.
 pub fn with_source(
     alloc: Global,
     draft: Boxed<Draft>,
@@ -76,6 +79,7 @@ pub fn with_source(
     Boxed::new(alloc, draft)
 }
 
+/// A rule whose sources have a condition.
 pub fn with_guard(
     alloc: Global,
     draft: Boxed<Draft>,
@@ -88,6 +92,7 @@ pub fn with_guard(
     Boxed::new(alloc, draft)
 }
 
+/// A rule with one variable of `using` more.
 pub fn with_local(
     alloc: Global,
     draft: Boxed<Draft>,
@@ -100,6 +105,7 @@ pub fn with_local(
     Boxed::new(alloc, draft)
 }
 
+/// A rule with one target more.
 pub fn with_target(
     alloc: Global,
     draft: Boxed<Draft>,
@@ -112,6 +118,7 @@ pub fn with_target(
     Boxed::new(alloc, draft)
 }
 
+/// A rule with the statements of its `do`.
 pub fn with_block(
     alloc: Global,
     draft: Boxed<Draft>,
@@ -135,6 +142,7 @@ pub fn new_target(alloc: Global, name: Name, class: ClassRef) -> Target
     }
 }
 
+/// A target with one binding more.
 pub fn with_bind(target: Target, bind: Bind) -> Result<Target, AllocError>
     ensures { IfOk result (λ t. t ≡ with_bind_of target bind) }
 {

@@ -1,11 +1,11 @@
 // One mark alone may stand here.
 ghost use Rattle.std.specs.Prelude.{◌≡◌};
 ghost use Rattle.atl_tree.specs.declared.name.Name.{Name as SomeName};
-ghost use Rattle.module_parse.specs.Machine.{Refuses, Step, a_name as a_name_of, a_colon as a_colon_of, a_semicolon as a_semicolon_of, an_open as an_open_of, a_close as a_close_of, a_brace as a_brace_of, an_equal as an_equal_of, a_bang as a_bang_of, an_in as an_in_of, a_gives as a_gives_of, a_def as a_def_of, a_rule as a_rule_of};
-ghost use Rattle.module_parse.specs.Nexts.{meant, named, state_of, step_of};
+ghost use Rattle.module_states.specs.Machine.{Refuses, Step, a_name as a_name_of, a_colon as a_colon_of, a_semicolon as a_semicolon_of, an_open as an_open_of, a_close as a_close_of, a_brace as a_brace_of, an_equal as an_equal_of, a_bang as a_bang_of, an_in as an_in_of, a_gives as a_gives_of, a_def as a_def_of, a_rule as a_rule_of};
+ghost use Rattle.module_states.specs.Nexts.{meant, named, state_of, step_of};
 
-use crate::reading::content::Content;
-use crate::reading::next::{Class, Head, Header, Helping, Move, Next, Params, Part, Stating};
+use crate::content::Content;
+use crate::next::{Class, Head, Header, Helping, Move, Next, Params, Part, Stating};
 use atl_base::place::Place;
 use atl_tree::expr::BinaryOp;
 use atl_tree::module::Target;
@@ -82,6 +82,7 @@ pub fn a_name(content: Content, place: Place) -> Option<Name>
     }
 }
 
+/// `:`, and on from there.
 pub fn a_colon(content: Content, then: Next) -> Move
     ensures { a_colon_of (meant content) (state_of then) ≡ step_of result }
 {
@@ -91,6 +92,7 @@ pub fn a_colon(content: Content, then: Next) -> Move
     }
 }
 
+/// `(`, and on from there.
 pub fn an_open(content: Content, then: Next) -> Move
     ensures { an_open_of (meant content) (state_of then) ≡ step_of result }
 {
@@ -100,6 +102,7 @@ pub fn an_open(content: Content, then: Next) -> Move
     }
 }
 
+/// `)`, and on from there.
 pub fn a_close(content: Content, then: Next) -> Move
     ensures { a_close_of (meant content) (state_of then) ≡ step_of result }
 {
@@ -109,6 +112,7 @@ pub fn a_close(content: Content, then: Next) -> Move
     }
 }
 
+/// `{`, and on from there.
 pub fn a_brace(content: Content, then: Next) -> Move
     ensures { a_brace_of (meant content) (state_of then) ≡ step_of result }
 {
@@ -118,6 +122,7 @@ pub fn a_brace(content: Content, then: Next) -> Move
     }
 }
 
+/// `;`, and on from there.
 pub fn a_semicolon(content: Content, then: Next) -> Move
     ensures { a_semicolon_of (meant content) (state_of then) ≡ step_of result }
 {
@@ -127,6 +132,7 @@ pub fn a_semicolon(content: Content, then: Next) -> Move
     }
 }
 
+/// `=`, and on from there.
 pub fn an_equal(content: Content, then: Next) -> Move
     ensures { an_equal_of (meant content) (state_of then) ≡ step_of result }
 {
@@ -136,6 +142,7 @@ pub fn an_equal(content: Content, then: Next) -> Move
     }
 }
 
+/// `!`, and on from there.
 pub fn a_bang(content: Content, then: Next) -> Move
     ensures { a_bang_of (meant content) (state_of then) ≡ step_of result }
 {
@@ -145,6 +152,7 @@ pub fn a_bang(content: Content, then: Next) -> Move
     }
 }
 
+/// `in`, and on from there.
 pub fn an_in(content: Content, then: Next) -> Move
     ensures { an_in_of (meant content) (state_of then) ≡ step_of result }
 {
@@ -154,6 +162,7 @@ pub fn an_in(content: Content, then: Next) -> Move
     }
 }
 
+/// `<-`, and on from there.
 pub fn a_gives(content: Content, then: Next) -> Move
     ensures { a_gives_of (meant content) (state_of then) ≡ step_of result }
 {
@@ -163,6 +172,7 @@ pub fn a_gives(content: Content, then: Next) -> Move
     }
 }
 
+/// `def`, and on from there.
 pub fn a_def(content: Content, then: Next) -> Move
     ensures { a_def_of (meant content) (state_of then) ≡ step_of result }
 {
@@ -172,6 +182,7 @@ pub fn a_def(content: Content, then: Next) -> Move
     }
 }
 
+/// `rule`, and on from there.
 pub fn a_rule(content: Content, then: Next) -> Move
     ensures { a_rule_of (meant content) (state_of then) ≡ step_of result }
 {

@@ -1,18 +1,18 @@
 // Parameters, of helpers and rules.
 ghost use Rattle.std.specs.Prelude.{◌≡◌, [], IfOk, true};
 ghost use Rattle.ocl_parse.specs.declared.frame.Next.TheVariants as N;
-ghost use Rattle.module_parse.specs.Machine.{AtParamColon, ForParam, Goes, InKind, a_colon as a_colon_of, a_name as a_name_of, first_param as first_param_of, step as stepped, with_all as with_all_of};
-ghost use Rattle.module_parse.specs.Nexts.{meant, owner_of, params_of, state_of, step_of};
-ghost use Rattle.module_parse.specs.declared.reading.next.Params.TheVariants as P;
+ghost use Rattle.module_states.specs.Machine.{AtParamColon, ForParam, Goes, InKind, a_colon as a_colon_of, a_name as a_name_of, first_param as first_param_of, step as stepped, with_all as with_all_of};
+ghost use Rattle.module_states.specs.Nexts.{meant, owner_of, params_of, state_of, step_of};
+ghost use Rattle.module_states.specs.declared.next.Params.TheVariants as P;
 
-use crate::reading::content::Content;
-use crate::reading::kind::begin;
-use crate::reading::next::{ForKind, Helping, Move, Next, Owner, Params, Point, Signature};
-use crate::reading::parts::with_params;
-use crate::reading::wanted::{a_colon, a_name};
+use crate::kind::begin;
 use atl_base::place::Place;
 use atl_tree::module::{Param, RuleSort};
 use atl_tree::name::Name;
+use module_states::content::Content;
+use module_states::next::{ForKind, Helping, Move, Next, Owner, Params, Point, Signature};
+use module_states::parts::with_params;
+use module_states::wanted::{a_colon, a_name};
 use ocl_parse::sign::{Ender, Sign};
 use ocl_parse::symbol::Symbol;
 use sqlite_items::Items;

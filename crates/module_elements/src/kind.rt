@@ -2,22 +2,22 @@
 ghost use Rattle.std.specs.Prelude.{◌≡◌, [], IfOk, true};
 ghost use Rattle.ocl_parse.specs.Machine.{step as stepped};
 ghost use Rattle.ocl_parse.specs.declared.frame.Next.TheVariants as N;
-ghost use Rattle.module_parse.specs.Machine.{AtParam, ForParam, InKind, comma_or_close as comma_or_close_of, kind_goes as kind_goes_of, with_all as with_all_of, at_context as at_context_of, in_kind as in_kind_of, kind_end as kind_end_of};
+ghost use Rattle.module_states.specs.Machine.{AtParam, ForParam, InKind, comma_or_close as comma_or_close_of, kind_goes as kind_goes_of, with_all as with_all_of, at_context as at_context_of, in_kind as in_kind_of, kind_end as kind_end_of};
 ghost use Rattle.module_grammar.specs.Marks.{symbol as symbol_in};
-ghost use Rattle.module_parse.specs.Nexts.{for_kind_of, is_coll as is_coll_of, meant, owner_of, state_of, step_of};
-ghost use Rattle.module_parse.specs.declared.reading.next.ForKind.TheVariants as K;
+ghost use Rattle.module_states.specs.Nexts.{for_kind_of, is_coll as is_coll_of, meant, owner_of, state_of, step_of};
+ghost use Rattle.module_states.specs.declared.next.ForKind.TheVariants as K;
 
-use crate::reading::content::{Content, symbol};
-use crate::reading::expr::begin as begin_expr;
-use crate::reading::next::{
-    Draft, ForExpr, ForKind, Helping, Move, Next, Owner, Params, Part, Signature,
-};
-use crate::reading::params::with_all;
-use crate::reading::wanted::{a_def, an_equal};
+use crate::expr::begin as begin_expr;
+use crate::params::with_all;
 use atl_base::place::Place;
 use atl_tree::kind::KindNode;
 use atl_tree::module::{Module, Param};
 use atl_tree::name::Name;
+use module_states::content::{Content, symbol};
+use module_states::next::{
+    Draft, ForExpr, ForKind, Helping, Move, Next, Owner, Params, Part, Signature,
+};
+use module_states::wanted::{a_def, an_equal};
 use ocl_parse::frame::{Move as MoveInside, Next as NextInside};
 use ocl_parse::sign::{Ender, Sign};
 use ocl_parse::stack::Stack;

@@ -10,54 +10,54 @@ use Rattle.ocl_parse.specs.declared.sign.Sign.TheVariants.{Coll, End, If, Open, 
 use Rattle.ocl_parse.specs.declared.symbol.Symbol.TheVariants.{Fixed}
 use Rattle.module_grammar.specs.Marks.{Content, Word, Shared}
 use Rattle.module_grammar.specs.Parts.{Modifier, Abstract, Unique, Lazy, Modifiers}
-use Rattle.module_parse.specs.Machine.{AtBang, AtBind, AtBinds, AtBrace, AtCalledBrace, AtClass, AtClassName, AtContext, AtCreate, AtDefColon, AtDo, AtElse, AtElseBrace, AtFirstBind, AtFirstParam, AtFor, AtForBrace, AtForIn, AtForName, AtFrom, AtGives, AtHelper, AtHelperName, AtIf, AtIfBrace, AtItem, AtLocal, AtLocalColon, AtMeta, AtModel, AtModelColon, AtModelEnd, AtModuleEnd, AtModuleName, AtNoParams, AtParam, AtParamColon, AtParent, AtRest, AtResultColon, AtRule, AtRuleEnd, AtRuleName, AtRuleOpen, AtSignature, AtSource, AtSourceColon, AtSourceEnd, AtStart, AtStat, AtTarget, AtTargetColon, AtTargetEnd, AtTo, AtUsing, AtWord, Blocks, ForAssigned, ForBind, ForBody, ForClass, ForCondition, ForContext, ForExpr, ForGuard, ForKind, ForLocal, ForLocalKind, ForParam, ForResult, ForSource, ForSources, ForStat, ForTarget, ForTargets, ForValues, Form, Goes, InDo, InElse, InExpr, InFor, InIf, InKind, Models, Modified, OfHelper, OfRule, Owner, Plain, Refuses, Started, State, Step, TooDeep}
+use Rattle.module_states.specs.Machine.{AtBang, AtBind, AtBinds, AtBrace, AtCalledBrace, AtClass, AtClassName, AtContext, AtCreate, AtDefColon, AtDo, AtElse, AtElseBrace, AtFirstBind, AtFirstParam, AtFor, AtForBrace, AtForIn, AtForName, AtFrom, AtGives, AtHelper, AtHelperName, AtIf, AtIfBrace, AtItem, AtLocal, AtLocalColon, AtMeta, AtModel, AtModelColon, AtModelEnd, AtModuleEnd, AtModuleName, AtNoParams, AtParam, AtParamColon, AtParent, AtRest, AtResultColon, AtRule, AtRuleEnd, AtRuleName, AtRuleOpen, AtSignature, AtSource, AtSourceColon, AtSourceEnd, AtStart, AtStat, AtTarget, AtTargetColon, AtTargetEnd, AtTo, AtUsing, AtWord, Blocks, ForAssigned, ForBind, ForBody, ForClass, ForCondition, ForContext, ForExpr, ForGuard, ForKind, ForLocal, ForLocalKind, ForParam, ForResult, ForSource, ForSources, ForStat, ForTarget, ForTargets, ForValues, Form, Goes, InDo, InElse, InExpr, InFor, InIf, InKind, Models, Modified, OfHelper, OfRule, Owner, Plain, Refuses, Started, State, Step, TooDeep}
 use Rattle.module_grammar.specs.declared.keyword.Keyword.TheVariants as J
-use Rattle.module_parse.specs.declared.reading.content.Content.{Content as SomeContent}
-use Rattle.module_parse.specs.declared.reading.content.Content.TheVariants as T
-use Rattle.module_parse.specs.declared.reading.next.Opening.{Opening}
-use Rattle.module_parse.specs.declared.reading.next.Opening.TheVariants as Q
-use Rattle.module_parse.specs.declared.reading.next.Models.{Models as SomeModels}
-use Rattle.module_parse.specs.declared.reading.next.Models.TheVariants as M
-use Rattle.module_parse.specs.declared.reading.next.Header.{Header}
-use Rattle.module_parse.specs.declared.reading.next.Header.TheVariants as H
-use Rattle.module_parse.specs.declared.reading.next.Helping.{Helping}
-use Rattle.module_parse.specs.declared.reading.next.Helping.TheVariants as L
-use Rattle.module_parse.specs.declared.reading.next.Draft.{Draft}
-use Rattle.module_parse.specs.declared.reading.next.Owner.{Owner as SomeOwner}
-use Rattle.module_parse.specs.declared.reading.next.Owner.TheVariants as O
-use Rattle.module_parse.specs.declared.reading.next.Params.{Params}
-use Rattle.module_parse.specs.declared.reading.next.Params.TheVariants as P
-use Rattle.module_parse.specs.declared.reading.next.Modifier.{Modifier as SomeModifier}
-use Rattle.module_parse.specs.declared.reading.next.Modifier.TheVariants as W
-use Rattle.module_parse.specs.declared.reading.next.Modifiers.{Modifiers as SomeModifiers}
-use Rattle.module_parse.specs.declared.reading.next.Form.{Form as SomeForm}
-use Rattle.module_parse.specs.declared.reading.next.Form.TheVariants as F
-use Rattle.module_parse.specs.declared.reading.next.Head.{Head}
-use Rattle.module_parse.specs.declared.reading.next.Head.TheVariants as D
-use Rattle.module_parse.specs.declared.reading.next.Point.{Point}
-use Rattle.module_parse.specs.declared.reading.next.Point.TheVariants as R
-use Rattle.module_parse.specs.declared.reading.next.Colon.{Colon}
-use Rattle.module_parse.specs.declared.reading.next.Colon.TheVariants as N
-use Rattle.module_parse.specs.declared.reading.next.Purpose.{Purpose}
-use Rattle.module_parse.specs.declared.reading.next.Purpose.TheVariants as U
-use Rattle.module_parse.specs.declared.reading.next.Classing.{Classing}
-use Rattle.module_parse.specs.declared.reading.next.Class.{Class}
-use Rattle.module_parse.specs.declared.reading.next.Class.TheVariants as C
-use Rattle.module_parse.specs.declared.reading.next.TargetPoint.{TargetPoint}
-use Rattle.module_parse.specs.declared.reading.next.TargetPoint.TheVariants as G
-use Rattle.module_parse.specs.declared.reading.next.Outer.{Outer}
-use Rattle.module_parse.specs.declared.reading.next.Outer.TheVariants as B
-use Rattle.module_parse.specs.declared.reading.next.Block.{Block}
-use Rattle.module_parse.specs.declared.reading.next.Stating.{Stating}
-use Rattle.module_parse.specs.declared.reading.next.Stating.TheVariants as S
-use Rattle.module_parse.specs.declared.reading.next.ForKind.{ForKind as SomeForKind}
-use Rattle.module_parse.specs.declared.reading.next.ForKind.TheVariants as K
-use Rattle.module_parse.specs.declared.reading.next.ForExpr.{ForExpr as SomeForExpr}
-use Rattle.module_parse.specs.declared.reading.next.ForExpr.TheVariants as E
-use Rattle.module_parse.specs.declared.reading.next.Next.{Next}
-use Rattle.module_parse.specs.declared.reading.next.Next.TheVariants as X
-use Rattle.module_parse.specs.declared.reading.next.Move.{Move}
-use Rattle.module_parse.specs.declared.reading.next.Move.TheVariants as V
+use Rattle.module_states.specs.declared.content.Content.{Content as SomeContent}
+use Rattle.module_states.specs.declared.content.Content.TheVariants as T
+use Rattle.module_states.specs.declared.next.Opening.{Opening}
+use Rattle.module_states.specs.declared.next.Opening.TheVariants as Q
+use Rattle.module_states.specs.declared.next.Models.{Models as SomeModels}
+use Rattle.module_states.specs.declared.next.Models.TheVariants as M
+use Rattle.module_states.specs.declared.next.Header.{Header}
+use Rattle.module_states.specs.declared.next.Header.TheVariants as H
+use Rattle.module_states.specs.declared.next.Helping.{Helping}
+use Rattle.module_states.specs.declared.next.Helping.TheVariants as L
+use Rattle.module_states.specs.declared.next.Draft.{Draft}
+use Rattle.module_states.specs.declared.next.Owner.{Owner as SomeOwner}
+use Rattle.module_states.specs.declared.next.Owner.TheVariants as O
+use Rattle.module_states.specs.declared.next.Params.{Params}
+use Rattle.module_states.specs.declared.next.Params.TheVariants as P
+use Rattle.module_states.specs.declared.next.Modifier.{Modifier as SomeModifier}
+use Rattle.module_states.specs.declared.next.Modifier.TheVariants as W
+use Rattle.module_states.specs.declared.next.Modifiers.{Modifiers as SomeModifiers}
+use Rattle.module_states.specs.declared.next.Form.{Form as SomeForm}
+use Rattle.module_states.specs.declared.next.Form.TheVariants as F
+use Rattle.module_states.specs.declared.next.Head.{Head}
+use Rattle.module_states.specs.declared.next.Head.TheVariants as D
+use Rattle.module_states.specs.declared.next.Point.{Point}
+use Rattle.module_states.specs.declared.next.Point.TheVariants as R
+use Rattle.module_states.specs.declared.next.Colon.{Colon}
+use Rattle.module_states.specs.declared.next.Colon.TheVariants as N
+use Rattle.module_states.specs.declared.next.Purpose.{Purpose}
+use Rattle.module_states.specs.declared.next.Purpose.TheVariants as U
+use Rattle.module_states.specs.declared.next.Classing.{Classing}
+use Rattle.module_states.specs.declared.next.Class.{Class}
+use Rattle.module_states.specs.declared.next.Class.TheVariants as C
+use Rattle.module_states.specs.declared.next.TargetPoint.{TargetPoint}
+use Rattle.module_states.specs.declared.next.TargetPoint.TheVariants as G
+use Rattle.module_states.specs.declared.next.Outer.{Outer}
+use Rattle.module_states.specs.declared.next.Outer.TheVariants as B
+use Rattle.module_states.specs.declared.next.Block.{Block}
+use Rattle.module_states.specs.declared.next.Stating.{Stating}
+use Rattle.module_states.specs.declared.next.Stating.TheVariants as S
+use Rattle.module_states.specs.declared.next.ForKind.{ForKind as SomeForKind}
+use Rattle.module_states.specs.declared.next.ForKind.TheVariants as K
+use Rattle.module_states.specs.declared.next.ForExpr.{ForExpr as SomeForExpr}
+use Rattle.module_states.specs.declared.next.ForExpr.TheVariants as E
+use Rattle.module_states.specs.declared.next.Next.{Next}
+use Rattle.module_states.specs.declared.next.Next.TheVariants as X
+use Rattle.module_states.specs.declared.next.Move.{Move}
+use Rattle.module_states.specs.declared.next.Move.TheVariants as V
 
 -- what the code holds of a token
 abbrev pub meant : SomeContent → Content

@@ -1,20 +1,20 @@
 // Helpers, up to their types.
 ghost use Rattle.std.specs.Prelude.{◌≡◌, [], IfOk, true};
 ghost use Rattle.ocl_parse.specs.declared.frame.Next.TheVariants as N;
-ghost use Rattle.module_parse.specs.Machine.{InKind, a_colon as a_colon_of, at_helper as at_helper_of, at_signature as at_signature_of, step as stepped};
-ghost use Rattle.module_parse.specs.Nexts.{for_kind_of, helping_of, meant, step_of};
-ghost use Rattle.module_parse.specs.declared.reading.next.ForKind.TheVariants as K;
-ghost use Rattle.module_parse.specs.declared.reading.next.Helping.TheVariants as L;
+ghost use Rattle.module_states.specs.Machine.{InKind, a_colon as a_colon_of, at_helper as at_helper_of, at_signature as at_signature_of, step as stepped};
+ghost use Rattle.module_states.specs.Nexts.{for_kind_of, helping_of, meant, step_of};
+ghost use Rattle.module_states.specs.declared.next.ForKind.TheVariants as K;
+ghost use Rattle.module_states.specs.declared.next.Helping.TheVariants as L;
 
-use crate::reading::content::Content;
-use crate::reading::kind::{begin, context_begins};
-use crate::reading::next::{ForKind, Helping, Move, Next, Owner, Params, Signature};
-use crate::reading::wanted::{a_colon, a_name};
+use crate::kind::{begin, context_begins};
 use atl_base::place::Place;
 use atl_tree::kind::KindNode;
 use atl_tree::module::Module;
 use atl_tree::name::Name;
 use module_grammar::keyword::Keyword;
+use module_states::content::Content;
+use module_states::next::{ForKind, Helping, Move, Next, Owner, Params, Signature};
+use module_states::wanted::{a_colon, a_name};
 use ocl_parse::sign::Sign;
 use ocl_parse::symbol::Symbol;
 use std::alloc::{AllocError, Global};

@@ -1,13 +1,13 @@
 // Where an item begins.
 ghost use Rattle.std.specs.Prelude.{◌≡◌};
-ghost use Rattle.module_parse.specs.Machine.{at_item as at_item_of, modified as modified_of};
+ghost use Rattle.module_states.specs.Machine.{at_item as at_item_of, modified as modified_of};
 ghost use Rattle.module_grammar.specs.Parts.{no_modifiers, has as has_of, with_modifier as with_modifier_of};
-ghost use Rattle.module_parse.specs.Nexts.{meant, modifier_of, modifiers_of, step_of};
+ghost use Rattle.module_states.specs.Nexts.{meant, modifier_of, modifiers_of, step_of};
 
-use crate::reading::content::Content;
-use crate::reading::next::{Form, Head, Helping, Modifier, Modifiers, Move, Next};
 use atl_tree::module::{Module, RuleSort};
 use module_grammar::keyword::Keyword;
+use module_states::content::Content;
+use module_states::next::{Form, Head, Helping, Modifier, Modifiers, Move, Next};
 
 fn has(words: Modifiers, word: Modifier) -> bool
     ensures { result ≡ has_of (modifiers_of words) (modifier_of word) }

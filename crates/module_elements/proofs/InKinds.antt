@@ -9,9 +9,9 @@ use Rattle.ocl_parse.specs.declared.frame.Next.{Next}
 use Rattle.ocl_parse.specs.declared.frame.Next.TheVariants as N
 use Rattle.ocl_parse.specs.Machine.{step}
 use Rattle.module_grammar.specs.Marks.{Content, symbol}
-use Rattle.module_parse.specs.Machine.{ForKind, ForContext, in_kind, kind_goes}
-use Rattle.module_parse.specs.Nexts.{step_of}
-use Rattle.module_parse.specs.declared.reading.next.Move.{Move}
+use Rattle.module_states.specs.Machine.{ForKind, ForContext, in_kind, kind_goes}
+use Rattle.module_states.specs.Nexts.{step_of}
+use Rattle.module_states.specs.declared.next.Move.{Move}
 
 pub in_kind_goes : (o : ForKind) (n : Next) (fs : List Frame) (t : Content) (p : Place) → ((k : KindNode) → n ≡ N.HaveKind k → ⊥) → in_kind o n fs t p ≡ kind_goes o (step true fs n (symbol t) p)
 in_kind_goes o (N.HaveKind k) fs t p h = absurd (h k refl)

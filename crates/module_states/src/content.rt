@@ -1,8 +1,7 @@
 // What a token is to the grammar of modules.
 ghost use Rattle.std.specs.Prelude.{◌≡◌, IfOk};
 ghost use Rattle.module_grammar.specs.Marks.{content_of, word_or, symbol as symbol_in};
-ghost use Rattle.module_parse.specs.Reading.{is_other as is_other_of};
-ghost use Rattle.module_parse.specs.Nexts.{meant, sign_of};
+ghost use Rattle.module_states.specs.Nexts.{meant, sign_of};
 ghost use Rattle.ocl_parse.specs.Symbols.{symbol_of};
 
 use atl_tree::token::{Token, TokenSort};
@@ -69,18 +68,5 @@ pub fn sign(content: &Content) -> Sign
         Content::Shared(Symbol::Number(_)) => Sign::Other,
         Content::Shared(Symbol::Words(_)) => Sign::Other,
         Content::Shared(Symbol::Name(_)) => Sign::Other,
-    }
-}
-
-/// Whether it belongs to a unit of another sort, where `first` says that the text begins with it.
-pub fn is_other(first: bool, content: &Content) -> bool
-    ensures { result ≡ is_other_of first (meant content.now) }
-{
-    match content {
-        Content::Word(Keyword::Query) => first,
-        Content::Word(Keyword::Library) => first,
-        Content::Word(Keyword::Uses) => true,
-        Content::Word(Keyword::Refining) => true,
-        _ => false,
     }
 }

@@ -1,7 +1,7 @@
 use Rattle.std.proofs.Common.{ap}
-use Rattle.module_parse.specs.Nexts.{for_kind_of, meant}
-use Rattle.module_parse.proofs.InKinds.{context_goes}
-use Rattle.module_parse.proofs.reading.kind.context_goes.Goals as goal
+use Rattle.module_states.specs.Nexts.{for_kind_of, meant}
+use Rattle.module_elements.proofs.InKinds.{context_goes}
+use Rattle.module_elements.proofs.kind.context_goes.Goals as goal
 
 pub returns : goal.returns
 returns c =

@@ -1,20 +1,20 @@
 // A rule before its `{`.
 ghost use Rattle.std.specs.Prelude.{◌≡◌, IfOk, true};
-ghost use Rattle.module_parse.specs.Machine.{Modified, Plain, Started, at_word as at_word_of, rule_open as rule_open_of, step as stepped, worded as worded_of};
+ghost use Rattle.module_states.specs.Machine.{Modified, Plain, Started, at_word as at_word_of, rule_open as rule_open_of, step as stepped, worded as worded_of};
 ghost use Rattle.module_grammar.specs.Parts.{may_stand as may_stand_of, sort_of as sort_of_words};
-ghost use Rattle.module_parse.specs.Nexts.{form_of, head_of, meant, modifiers_of, step_of};
-ghost use Rattle.module_parse.specs.declared.reading.next.Head.TheVariants as D;
+ghost use Rattle.module_states.specs.Nexts.{form_of, head_of, meant, modifiers_of, step_of};
+ghost use Rattle.module_states.specs.declared.next.Head.TheVariants as D;
 
-use crate::reading::content::Content;
-use crate::reading::item::modified;
-use crate::reading::next::{
-    Draft, Form, Head, Modifier, Modifiers, Move, Next, Owner, Params, Point,
-};
-use crate::reading::parts::bare;
-use crate::reading::wanted::{a_name, a_rule};
+use crate::item::modified;
 use atl_base::place::Place;
 use atl_tree::module::{Module, RuleSort};
 use module_grammar::keyword::Keyword;
+use module_states::content::Content;
+use module_states::next::{
+    Draft, Form, Head, Modifier, Modifiers, Move, Next, Owner, Params, Point,
+};
+use module_states::parts::bare;
+use module_states::wanted::{a_name, a_rule};
 use ocl_parse::sign::Sign;
 use ocl_parse::symbol::Symbol;
 use sqlite_items::Boxed;

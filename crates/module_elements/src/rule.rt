@@ -2,24 +2,24 @@
 ghost use Rattle.std.specs.Prelude.{◌≡◌, [], IfOk, true};
 ghost use Rattle.ocl_parse.specs.declared.frame.Next.TheVariants as N;
 ghost use Rattle.atl_tree.specs.declared.module.Item.TheVariants as I;
-ghost use Rattle.module_parse.specs.Machine.{AtClass, AtItem, AtLocalColon, ForLocalKind, Goes, InKind, a_colon as a_colon_of, a_name as a_name_of, at_do as at_do_of, at_from as at_from_of, at_guard as at_guard_of, at_local as at_local_of, at_rest as at_rest_of, at_to as at_to_of, source_end as source_end_of, step as stepped, target_end as target_end_of};
+ghost use Rattle.module_states.specs.Machine.{AtClass, AtItem, AtLocalColon, ForLocalKind, Goes, InKind, a_colon as a_colon_of, a_name as a_name_of, at_do as at_do_of, at_from as at_from_of, at_guard as at_guard_of, at_local as at_local_of, at_rest as at_rest_of, at_to as at_to_of, source_end as source_end_of, step as stepped, target_end as target_end_of};
 ghost use Rattle.module_grammar.specs.Parts.{with_item as with_item_of};
-ghost use Rattle.module_parse.specs.Nexts.{colon_of, is_using as is_using_of, meant, purpose_of, rule_of, step_of};
-ghost use Rattle.module_parse.specs.declared.reading.next.Point.TheVariants as R;
+ghost use Rattle.module_states.specs.Nexts.{colon_of, is_using as is_using_of, meant, purpose_of, rule_of, step_of};
+ghost use Rattle.module_states.specs.declared.next.Point.TheVariants as R;
 
-use crate::reading::content::Content;
-use crate::reading::expr::begin as begin_expr;
-use crate::reading::kind::begin as begin_kind;
-use crate::reading::next::{
-    Block, Class, Classing, Colon, Draft, ForExpr, ForKind, Move, Next, Point, Purpose, Stating,
-};
-use crate::reading::parts::{with_item, with_parent};
-use crate::reading::wanted::{a_brace, a_close, a_colon, a_name};
+use crate::expr::begin as begin_expr;
+use crate::kind::begin as begin_kind;
 use atl_base::place::Place;
 use atl_tree::module::{Item, RuleSort};
 use atl_tree::name::Name;
 use atl_tree::statements::Statements;
 use module_grammar::keyword::Keyword;
+use module_states::content::Content;
+use module_states::next::{
+    Block, Class, Classing, Colon, Draft, ForExpr, ForKind, Move, Next, Point, Purpose, Stating,
+};
+use module_states::parts::{with_item, with_parent};
+use module_states::wanted::{a_brace, a_close, a_colon, a_name};
 use ocl_parse::sign::{Ender, Sign};
 use ocl_parse::symbol::Symbol;
 use sqlite_items::{Boxed, Items};
