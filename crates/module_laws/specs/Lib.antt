@@ -1,0 +1,5 @@
+pub mod TooDeep
+pub mod Laws
+pub mod Places
+pub mod Held
+pub mod ReadBack

@@ -1,5 +1,0 @@
-use Rattle.module_parse.proofs.SaysModules.{read_back}
-use Rattle.module_parse.proofs.laws.canonical_marks_are_read_back.Goals as goal
-
-pub returns : goal.returns
-returns c = read_back

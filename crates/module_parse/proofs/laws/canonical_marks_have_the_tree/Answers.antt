@@ -1,5 +1,0 @@
-use Rattle.module_parse.proofs.SaysModules.{canonical}
-use Rattle.module_parse.proofs.laws.canonical_marks_have_the_tree.Goals as goal
-
-pub returns : goal.returns
-returns c = canonical

@@ -1,5 +1,0 @@
-use Rattle.module_parse.proofs.Main.{one}
-use Rattle.module_parse.proofs.laws.marks_have_one_tree.Goals as goal
-
-pub returns : goal.returns
-returns c = one

@@ -1,5 +1,0 @@
-use Rattle.module_parse.proofs.ReadsBack.{read_back}
-use Rattle.module_parse.proofs.laws.printed_text_is_read_back.Goals as goal
-
-pub returns : goal.returns
-returns c = read_back

@@ -1,5 +1,0 @@
-use Rattle.module_parse.proofs.ReadsBack.{gives_well_formed}
-use Rattle.module_parse.proofs.laws.what_is_read_is_well_formed.Goals as goal
-
-pub returns : goal.returns
-returns c = gives_well_formed
